@@ -1,0 +1,118 @@
+-- Laws of bits: the test of a list's entries, lists of bits, symbols.
+-- Assumes nothing.
+use mathlib.Core.Path.{_≡_, refl, sym, ap, ap₂, _∙_}
+use mathlib.Core.List.{List, [], _∷_, _++_}
+use mathlib.Core.Bool.{Bool, true, false, cond}
+use Prim.Native.Nat.{ℕ, zero, suc, _+_, _-_, _%_, _≤_, _<_}
+use native.Mathlib.Omega.{arith}
+use native.Mathlib.Numerals.{add-one}
+use lib.ListN.{length, take, drop, getD}
+use Rattle.base.specs.Bits.{both, Bits, isBit, bitsOnly, disagrees, known}
+use Rattle.base.specs.Places.{tabulate}
+
+-- ---- one entry
+pub is-bit-yes : (b : ℕ) → b < 2 → isBit b ≡ true
+is-bit-yes zero h = refl
+is-bit-yes (suc zero) h = refl
+is-bit-yes (suc (suc b)) h = absurd (omega arith)
+
+pub is-bit-no : (b : ℕ) → 1 < b → isBit b ≡ false
+is-bit-no zero h = absurd (omega arith)
+is-bit-no (suc zero) h = absurd (omega arith)
+is-bit-no (suc (suc b)) h = refl
+
+no-true : {A : Type 0} → false ≡ true → A
+no-true q = absurd (omega (arith, ap {B = ℕ} (λ (t : Bool). cond t 1 0) q))
+
+pub is-bit-lt : (b : ℕ) → isBit b ≡ true → b < 2
+is-bit-lt zero e = omega arith
+is-bit-lt (suc zero) e = omega arith
+is-bit-lt (suc (suc b)) e = no-true e
+
+both-true : (a b : Bool) → both a b ≡ true → (a ≡ true) × (b ≡ true)
+both-true true b e = (refl, e)
+both-true false b e = no-true e
+
+-- ---- a loop that tests entry i
+pub bits-only-none : (s : List ℕ) → bitsOnly 0 s ≡ true
+bits-only-none s = refl
+
+pub bits-only-more : (i : ℕ) (s : List ℕ) → i < length s → bitsOnly i s ≡ true → getD s i 0 < 2 → bitsOnly (i + 1) s ≡ true
+bits-only-more i s h e b = rw add-one (more i s h e b)
+  where
+    more : (i : ℕ) (s : List ℕ) → i < length s → bitsOnly i s ≡ true → getD s i 0 < 2 → bitsOnly (suc i) s ≡ true
+    more i [] h e b = refl
+    more zero (a ∷ s) h e b = ap (λ (t : Bool). both t true) (is-bit-yes a b)
+    more (suc i) (a ∷ s) h e b =
+        let p = both-true (isBit a) (bitsOnly i s) e in
+        ap₂ both (p .0) (more i s (omega arith) (p .1) b)
+
+-- an entry that is no bit fails the test
+pub bits-only-no : (n i : ℕ) (s : List ℕ) → i < n → i < length s → 1 < getD s i 0 → bitsOnly n s ≡ false
+bits-only-no zero i s h k b = absurd (omega arith)
+bits-only-no (suc n) i [] h k b = absurd (omega arith)
+bits-only-no (suc n) zero (a ∷ s) h k b = ap (λ (t : Bool). both t (bitsOnly n s)) (is-bit-no a b)
+bits-only-no (suc n) (suc i) (a ∷ s) h k b = last (isBit a) (bits-only-no n i s (omega arith) (omega arith) b)
+  where
+    last : (t : Bool) → bitsOnly n s ≡ false → both t (bitsOnly n s) ≡ false
+    last true e = e
+    last false e = refl
+
+-- each of the entries is a bit where the test holds
+pub bits-only-at : (n i : ℕ) (s : List ℕ) → bitsOnly n s ≡ true → i < n → i < length s → getD s i 0 < 2
+bits-only-at zero i s e h k = absurd (omega arith)
+bits-only-at (suc n) i [] e h k = absurd (omega arith)
+bits-only-at (suc n) zero (a ∷ s) e h k = is-bit-lt a (both-true (isBit a) (bitsOnly n s) e .0)
+bits-only-at (suc n) (suc i) (a ∷ s) e h k = bits-only-at n i s (both-true (isBit a) (bitsOnly n s) e .1) (omega arith) (omega arith)
+
+pub bits-only-bits : (n : ℕ) (s : List ℕ) → bitsOnly n s ≡ true → Bits (take n s)
+bits-only-bits zero s e = tt
+bits-only-bits (suc n) [] e = tt
+bits-only-bits (suc n) (a ∷ s) e =
+    let p = both-true (isBit a) (bitsOnly n s) e in
+    (is-bit-lt a (p .0), bits-only-bits n s (p .1))
+
+-- a list of bits passes the test
+pub bits-only-yes : (n : ℕ) (s : List ℕ) → Bits s → bitsOnly n s ≡ true
+bits-only-yes zero s b = refl
+bits-only-yes (suc n) [] b = refl
+bits-only-yes (suc n) (a ∷ s) b = ap₂ both (is-bit-yes a (b .0)) (bits-only-yes n s (b .1))
+
+-- ---- lists of bits
+pub bits-append : (a b : List ℕ) → Bits a → Bits b → Bits (a ++ b)
+bits-append [] b p q = q
+bits-append (x ∷ a) b p q = (p .0, bits-append a b (p .1) q)
+
+pub bits-at : (w : List ℕ) → Bits w → (i : ℕ) → getD w i 0 < 2
+bits-at [] b i = omega arith
+bits-at (x ∷ w) b zero = b .0
+bits-at (x ∷ w) b (suc i) = bits-at w (b .1) i
+
+pub bits-of : (w : List ℕ) → ((i : ℕ) → i < length w → getD w i 0 < 2) → Bits w
+bits-of [] h = tt
+bits-of (x ∷ w) h = (h 0 (omega arith), bits-of w (λ i k. h (suc i) (omega arith)))
+
+pub bits-tabulate : (f : ℕ → ℕ) (n : ℕ) → ((i : ℕ) → i < n → f i < 2) → Bits (tabulate f n)
+unfolding tabulate
+bits-tabulate f zero h = tt
+bits-tabulate f (suc n) h = bits-append (tabulate f n) (f n ∷ []) (bits-tabulate f n (λ i k. h i (omega arith))) (h n (omega arith), tt)
+
+-- ---- symbols
+pub disagrees-le : (r y : ℕ) → y < 2 → disagrees r y ≤ known r
+disagrees-le zero y h = omega arith
+disagrees-le (suc zero) zero h = omega arith
+disagrees-le (suc zero) (suc y) h = omega arith
+disagrees-le (suc (suc r)) y h = omega arith
+
+pub known-le : (r : ℕ) → known r ≤ 1
+known-le zero = omega arith
+known-le (suc zero) = omega arith
+known-le (suc (suc r)) = omega arith
+
+-- a symbol disagrees with one of the two bits where it is known
+pub disagrees-other : (r y : ℕ) → y < 2 → disagrees r y + disagrees r (1 - y) ≡ known r
+disagrees-other zero y h = omega arith
+disagrees-other (suc zero) zero h = refl
+disagrees-other (suc zero) (suc zero) h = refl
+disagrees-other (suc zero) (suc (suc y)) h = absurd (omega arith)
+disagrees-other (suc (suc r)) y h = refl

@@ -1,0 +1,101 @@
+-- Laws of lists made entry by entry and written over the front of a target.
+-- Assumes nothing.
+use mathlib.Core.Path.{_≡_, refl, sym, ap, ap₂, _∙_}
+use mathlib.Core.List.{List, [], _∷_, _++_, append-assoc, append-nil}
+use mathlib.Core.Bool.{Bool, true, false}
+use Prim.Native.Nat.{ℕ, zero, suc, _+_, _-_, _≤_, _<_}
+use native.Mathlib.Numerals.{add-one}
+use native.Mathlib.Omega.{arith}
+use lib.Dec.{ltb}
+use borrow.Author.Tests.{ltb-true, ltb-false}
+use lib.ListN.{length, take, drop, getD, set, length-append, length-drop, length-set, List·getD-append}
+use lib.Seq.{drop-cons, set-at, take-at, drop-at, drop-length, ext-getD, getD-append-add}
+use Rattle.base.specs.Places.{tabulate, written}
+
+pub tabulate-length : (f : ℕ → ℕ) (n : ℕ) → length (tabulate f n) ≡ n
+unfolding tabulate
+tabulate-length f zero = refl
+tabulate-length f (suc n) = omega (arith, length-append (tabulate f n) (f n ∷ []), tabulate-length f n)
+
+pub tabulate-at : (f : ℕ → ℕ) (n i : ℕ) → i < n → getD (tabulate f n) i 0 ≡ f i
+unfolding tabulate
+tabulate-at f zero i h = absurd (omega arith)
+tabulate-at f (suc n) i h = go (tabulate-at f n i) (ltb i n) refl
+  where
+    l : length (tabulate f n) ≡ n
+    l = tabulate-length f n
+
+    go : (i < n → getD (tabulate f n) i 0 ≡ f i) → (t : Bool) → ltb i n ≡ t → getD (tabulate f n ++ (f n ∷ [])) i 0 ≡ f i
+    go ih true e = List·getD-append (tabulate f n) (f n ∷ []) 0 i (omega (arith, l, ltb-true i n e)) ∙ ih (ltb-true i n e)
+    go ih false e =
+        let p : i ≡ length (tabulate f n) + 0 = omega (arith, l, ltb-false i n e) in
+        let q : n ≡ i = omega (arith, ltb-false i n e) in
+        ap (λ (k : ℕ). getD (tabulate f n ++ (f n ∷ [])) k 0) p ∙ getD-append-add (tabulate f n) (f n ∷ []) 0 0 ∙ ap f q
+
+-- two rules that agree below n make one list
+pub tabulate-same : (f g : ℕ → ℕ) (n : ℕ) → ((i : ℕ) → i < n → f i ≡ g i) → tabulate f n ≡ tabulate g n
+unfolding tabulate
+tabulate-same f g zero h = refl
+tabulate-same f g (suc n) h = ap₂ (λ (l : List ℕ) (x : ℕ). l ++ (x ∷ [])) (tabulate-same f g n (λ i k. h i (omega arith))) (h n (omega arith))
+
+-- a list is what its entries make
+pub tabulate-of : (l : List ℕ) (f : ℕ → ℕ) (n : ℕ) → length l ≡ n → ((i : ℕ) → i < n → getD l i 0 ≡ f i) → l ≡ tabulate f n
+tabulate-of l f n e h =
+    ext-getD 0 l (tabulate f n) (e ∙ sym (tabulate-length f n)) (λ i k. h i (omega arith) ∙ sym (tabulate-at f n i (omega arith)))
+
+pub tabulate-more : (f : ℕ → ℕ) (n : ℕ) → tabulate f (n + 1) ≡ tabulate f n ++ (f n ∷ [])
+unfolding tabulate
+tabulate-more f n = rw add-one
+
+-- a rule's list in two pieces
+pub tabulate-add : (f : ℕ → ℕ) (n m : ℕ) → tabulate f (n + m) ≡ tabulate f n ++ tabulate (λ i. f (n + i)) m
+tabulate-add f n m =
+    sym (tabulate-of (tabulate f n ++ tabulate (λ i. f (n + i)) m) f (n + m)
+    (length-append (tabulate f n) (tabulate (λ i. f (n + i)) m) ∙ ap₂ (λ (x y : ℕ). x + y) (tabulate-length f n) (tabulate-length (λ i. f (n + i)) m))
+    (λ i k. at i k (ltb i n) refl))
+  where
+    at : (i : ℕ) → i < n + m → (t : Bool) → ltb i n ≡ t → getD (tabulate f n ++ tabulate (λ i. f (n + i)) m) i 0 ≡ f i
+    at i k true e =
+        List·getD-append (tabulate f n) (tabulate (λ i. f (n + i)) m) 0 i (omega (arith, tabulate-length f n, ltb-true i n e))
+        ∙ tabulate-at f n i (ltb-true i n e)
+    at i k false e =
+        let p : i ≡ length (tabulate f n) + (i - n) = omega (arith, tabulate-length f n, ltb-false i n e) in
+        let q : n + (i - n) ≡ i = omega (arith, ltb-false i n e) in
+        ap (λ (j : ℕ). getD (tabulate f n ++ tabulate (λ i. f (n + i)) m) j 0) p
+        ∙ getD-append-add (tabulate f n) (tabulate (λ i. f (n + i)) m) (i - n) 0
+        ∙ tabulate-at (λ i. f (n + i)) m (i - n) (omega (arith, ltb-false i n e)) ∙ ap f q
+
+-- ---- a loop that writes entry i at place i
+pub write-none : (f : ℕ → ℕ) (d : List ℕ) → d ≡ written (tabulate f 0) d
+unfolding tabulate
+write-none f d = refl
+
+pub write-more : (f : ℕ → ℕ) (i : ℕ) (d : List ℕ) → i < length d → set (written (tabulate f i) d) i (f i) ≡ written (tabulate f (i + 1)) d
+write-more f i d h =
+    let l = tabulate-length f i in
+    let m = tabulate-length f (i + 1) in
+    ap (λ (k : ℕ). set (tabulate f i ++ drop k d) i (f i)) l
+    ∙ ap (λ (r : List ℕ). set (tabulate f i ++ r) i (f i)) (drop-cons d i 0 h)
+    ∙ set-at (tabulate f i) (getD d i 0) (drop (suc i) d) (f i) i l
+    ∙ sym (append-assoc (tabulate f i) (f i ∷ []) (drop (suc i) d))
+    ∙ ap₂ (λ (r s : List ℕ). r ++ s) (sym (tabulate-more f i)) (ap (λ (k : ℕ). drop k d) (sym (m ∙ add-one i)))
+
+pub write-length : (f : ℕ → ℕ) (i : ℕ) (d : List ℕ) → i ≤ length d → length (written (tabulate f i) d) ≡ length d
+write-length f i d h =
+    omega (arith, length-append (tabulate f i) (drop (length (tabulate f i)) d), length-drop (length (tabulate f i)) d, tabulate-length f i)
+
+-- ---- what is written
+pub written-length : (new old : List ℕ) → length new ≤ length old → length (written new old) ≡ length old
+written-length new old h = omega (arith, length-append new (drop (length new) old), length-drop (length new) old)
+
+-- the front of a target that was written over
+pub written-front : (new old : List ℕ) → take (length new) (written new old) ≡ new
+written-front new old = take-at new (drop (length new) old) (length new) refl
+
+pub written-rest : (new old : List ℕ) → drop (length new) (written new old) ≡ drop (length new) old
+written-rest new old = drop-at new (drop (length new) old) (length new) refl
+
+-- a whole target
+pub written-whole : (new old : List ℕ) → length new ≡ length old → written new old ≡ new
+written-whole new old e =
+    ap (λ (l : List ℕ). new ++ l) (ap (λ (k : ℕ). drop k old) e ∙ drop-length old) ∙ append-nil new

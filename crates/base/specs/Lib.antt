@@ -1,0 +1,4 @@
+pub mod Refusal
+pub mod Bits
+pub mod Digits
+pub mod Places

@@ -1,0 +1,65 @@
+-- The refusal numbers of document 01, and what an entry leaves when it refuses.
+-- An entry's own refusal is a chain of `when`, in the order of document 01: 8, 7, 6, 1, 5, 2, 3, 4, 9.
+-- Assumes nothing.
+use Prim.Native.Nat.{ℕ, zero, suc}
+use mathlib.Core.Bool.{Bool, true, false}
+use Rattle.base.specs.declared.Outcome.{Outcome}
+use Rattle.base.specs.declared.Outcome.the-variants.{Done, Refused}
+use Rattle.base.specs.declared.Counts.{Counts}
+use Rattle.base.specs.declared.Received.{Received}
+use Rattle.base.specs.declared.Received.the-variants as received
+
+abbrev pub LIMIT : ℕ
+LIMIT = 1
+
+abbrev pub SHORT : ℕ
+SHORT = 2
+
+abbrev pub ROOM : ℕ
+ROOM = 3
+
+abbrev pub BIT : ℕ
+BIT = 4
+
+abbrev pub SHUFFLE : ℕ
+SHUFFLE = 5
+
+abbrev pub WORD : ℕ
+WORD = 6
+
+abbrev pub FIELD : ℕ
+FIELD = 7
+
+abbrev pub KIND : ℕ
+KIND = 8
+
+abbrev pub START : ℕ
+START = 9
+
+-- no refusal
+abbrev pub accepted : ℕ
+accepted = 0
+
+-- the number where the test holds, and otherwise what the later tests say
+abbrev pub when : Bool → ℕ → ℕ → ℕ
+when true number later = number
+when false number later = later
+
+-- of two values the first where nothing is refused, the second where something is
+abbrev pub unless : {A : Type 0} → ℕ → A → A → A
+unless zero made kept = made
+unless (suc number) made kept = kept
+
+-- the answer of an entry that has no value of its own
+abbrev pub outcome : ℕ → Outcome
+outcome zero = Done
+outcome (suc number) = Refused (suc number)
+
+-- the answer of a receive chain: whether the check agreed, and what was counted
+abbrev pub checked : Bool → Counts → Received
+checked true counts = received.Good counts
+checked false counts = received.Bad counts
+
+abbrev pub reception : ℕ → Bool → Counts → Received
+reception zero good counts = checked good counts
+reception (suc number) good counts = received.Refused (suc number)

@@ -1,0 +1,20 @@
+// Shared among our own crates: these ask something of their caller.
+ghost use mathlib.Core.Path.{_≡_};
+ghost use Prim.Native.Nat.{_≤_};
+ghost use lib.ListN.{length};
+ghost use Rattle.base.specs.Bits.{bitsOnly};
+
+// Whether the first n entries are bits.
+pub fn bits_only(s: &[u8], n: usize) -> bool
+    requires { ⌜ n ≤ length (now s) ⌝ }
+    ensures { λ r. ⌜ r ≡ bitsOnly n (now (s .entry)) ⌝ }
+{
+    let mut i: usize = 0;
+    while i < n {
+        if 1 < s[i] {
+            return false;
+        }
+        i += 1;
+    }
+    true
+}

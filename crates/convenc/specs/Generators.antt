@@ -1,0 +1,51 @@
+-- The mother codes by their generator polynomials: control (EN 300 392-2, 8.2.3.1.1) and speech (EN 300 395-2, 5.4.3.1).
+-- Assumes nothing.
+use mathlib.Core.List.{List, [], _∷_, map}
+use mathlib.Core.Bool.{Bool, true, false, not}
+use Prim.Native.Nat.{ℕ, zero, suc, _+_, _*_, _%_}
+use lib.Dec.{ltb}
+use lib.ListN.{length}
+use Rattle.base.specs.Refusal.{LIMIT, ROOM, BIT, accepted, when}
+use Rattle.base.specs.Bits.{bitsOnly}
+use Rattle.base.specs.Digits.{digits, number}
+
+-- a generator is the list of its coefficients, of D^0 to D^4
+abbrev pub control : List (List ℕ)
+control =
+    (1 ∷ 1 ∷ 0 ∷ 0 ∷ 1 ∷ [])
+    ∷ (1 ∷ 0 ∷ 1 ∷ 1 ∷ 1 ∷ [])
+    ∷ (1 ∷ 1 ∷ 1 ∷ 0 ∷ 1 ∷ [])
+    ∷ (1 ∷ 1 ∷ 0 ∷ 1 ∷ 1 ∷ [])
+    ∷ []
+
+-- the rate 1/3 form keeps the first three
+abbrev pub controlThird : List (List ℕ)
+controlThird = (1 ∷ 1 ∷ 0 ∷ 0 ∷ 1 ∷ []) ∷ (1 ∷ 0 ∷ 1 ∷ 1 ∷ 1 ∷ []) ∷ (1 ∷ 1 ∷ 1 ∷ 0 ∷ 1 ∷ []) ∷ []
+
+abbrev pub speech : List (List ℕ)
+speech = (1 ∷ 1 ∷ 1 ∷ 1 ∷ 1 ∷ []) ∷ (1 ∷ 1 ∷ 0 ∷ 1 ∷ 1 ∷ []) ∷ (1 ∷ 0 ∷ 1 ∷ 0 ∷ 1 ∷ []) ∷ []
+
+abbrev pub dot : List ℕ → List ℕ → ℕ
+dot [] bs = 0
+dot (g ∷ gs) [] = 0
+dot (g ∷ gs) (b ∷ bs) = g * b + dot gs bs
+
+-- a generator's output for the window x of five bits: the newest bit, of weight 16, and the four before it
+unfoldable pub tapped : List ℕ → ℕ → ℕ
+tapped g x = dot g (digits 5 x) % 2
+
+-- the outputs of all generators, in their order
+abbrev pub outputs : List (List ℕ) → ℕ → List ℕ
+outputs gs x = map (λ g. tapped g x) gs
+
+-- the four delays, the newest first, as the number that the encoder goes on from
+abbrev pub held : List ℕ → ℕ
+held delayed = number delayed
+
+-- an empty input succeeds whatever the delays hold
+abbrev pub encodeRefusal : ℕ → List ℕ → List ℕ → ℕ → ℕ
+encodeRefusal rate delayed [] dst = accepted
+encodeRefusal rate delayed (b ∷ src) dst =
+    when (ltb 4096 (length (b ∷ src))) LIMIT
+    (when (ltb dst (rate * length (b ∷ src))) ROOM
+    (when (not (bitsOnly (length (b ∷ src)) (b ∷ src))) BIT (when (not (bitsOnly 4 delayed)) BIT accepted)))

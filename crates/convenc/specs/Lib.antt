@@ -1,0 +1,3 @@
+pub mod Generators
+pub mod Puncturing
+pub mod Comparing

@@ -1,0 +1,1 @@
+// tch_reorder
