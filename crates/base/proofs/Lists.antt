@@ -70,15 +70,18 @@ pub write-none : (f : ℕ → ℕ) (d : List ℕ) → d ≡ written (tabulate f 
 unfolding tabulate
 write-none f d = refl
 
+-- one entry more behind what was written
+pub written-more : (new d : List ℕ) (x n : ℕ) → length new ≡ n → n < length d → set (written new d) n x ≡ written (new ++ (x ∷ [])) d
+written-more new d x n e h =
+    let l : length (new ++ (x ∷ [])) ≡ suc n = omega (arith, length-append new (x ∷ [])) in
+    ap (λ (k : ℕ). set (new ++ drop k d) n x) e
+    ∙ ap (λ (r : List ℕ). set (new ++ r) n x) (drop-cons d n 0 h)
+    ∙ set-at new (getD d n 0) (drop (suc n) d) x n e
+    ∙ sym (append-assoc new (x ∷ []) (drop (suc n) d))
+    ∙ ap (λ (k : ℕ). (new ++ (x ∷ [])) ++ drop k d) (sym l)
+
 pub write-more : (f : ℕ → ℕ) (i : ℕ) (d : List ℕ) → i < length d → set (written (tabulate f i) d) i (f i) ≡ written (tabulate f (i + 1)) d
-write-more f i d h =
-    let l = tabulate-length f i in
-    let m = tabulate-length f (i + 1) in
-    ap (λ (k : ℕ). set (tabulate f i ++ drop k d) i (f i)) l
-    ∙ ap (λ (r : List ℕ). set (tabulate f i ++ r) i (f i)) (drop-cons d i 0 h)
-    ∙ set-at (tabulate f i) (getD d i 0) (drop (suc i) d) (f i) i l
-    ∙ sym (append-assoc (tabulate f i) (f i ∷ []) (drop (suc i) d))
-    ∙ ap₂ (λ (r s : List ℕ). r ++ s) (sym (tabulate-more f i)) (ap (λ (k : ℕ). drop k d) (sym (m ∙ add-one i)))
+write-more f i d h = written-more (tabulate f i) d (f i) i (tabulate-length f i) h ∙ ap (λ (l : List ℕ). written l d) (sym (tabulate-more f i))
 
 pub write-length : (f : ℕ → ℕ) (i : ℕ) (d : List ℕ) → i ≤ length d → length (written (tabulate f i) d) ≡ length d
 write-length f i d h =
