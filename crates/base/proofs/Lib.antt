@@ -4,3 +4,4 @@ pub mod BitLaws
 pub mod DigitLaws
 pub mod Table
 pub mod Xor
+pub mod Refusals

@@ -9,7 +9,7 @@ use native.Mathlib.Omega.{arith}
 use lib.Dec.{ltb}
 use borrow.Author.Tests.{ltb-true, ltb-false}
 use lib.ListN.{length, take, drop, getD, set, length-append, length-drop, length-set, List·getD-append}
-use lib.Seq.{drop-cons, set-at, take-at, drop-at, drop-length, ext-getD, getD-append-add}
+use lib.Seq.{length-take-le, getD-take, drop-cons, set-at, take-at, drop-at, drop-length, ext-getD, getD-append-add}
 use Rattle.base.specs.Places.{tabulate, written}
 
 pub tabulate-length : (f : ℕ → ℕ) (n : ℕ) → length (tabulate f n) ≡ n
@@ -102,3 +102,11 @@ written-rest new old = drop-at new (drop (length new) old) (length new) refl
 pub written-whole : (new old : List ℕ) → length new ≡ length old → written new old ≡ new
 written-whole new old e =
     ap (λ (l : List ℕ). new ++ l) (ap (λ (k : ℕ). drop k old) e ∙ drop-length old) ∙ append-nil new
+
+-- a whole target with the source's entries
+pub copied : (source target : List ℕ) → length target ≤ length source
+    → written (tabulate (λ j. getD source j 0) (length target)) target ≡ take (length target) source
+copied source target h =
+    written-whole (tabulate (λ j. getD source j 0) (length target)) target (tabulate-length (λ j. getD source j 0) (length target))
+    ∙ sym (tabulate-of (take (length target) source) (λ j. getD source j 0) (length target) (length-take-le (length target) source h)
+    (λ i k. getD-take (length target) source i 0 k))

@@ -6,8 +6,8 @@ use mathlib.Core.Bool.{Bool, true, false}
 use Prim.Native.Nat.{ℕ, zero, suc, _+_, _-_, _≤_, _<_}
 use native.Mathlib.Numerals.{add-one}
 use native.Mathlib.Omega.{arith}
-use lib.Dec.{eqb}
-use borrow.Author.Tests.{eqb-true, eqb-false}
+use lib.Dec.{eqb, ltb}
+use borrow.Author.Tests.{eqb-true, eqb-false, ltb-true, ltb-false}
 use lib.ListN.{length, take, drop, getD, set, length-set, length-drop, length-append, List·getD-append}
 use lib.Seq.{ext-getD, getD-set-same, getD-set-other, getD-take, length-take-le, getD-drop, getD-append-add}
 use Rattle.base.specs.Places.{tabulate, written, gather, scatter, Apart, Within}
@@ -89,22 +89,49 @@ pub scatter-gather : (place : ℕ → ℕ) (n : ℕ) (src dst : List ℕ) → Ap
 scatter-gather place n src dst a w o h k =
     ext-getD 0 (scatter place n (gather place n src) dst) (written (take n src) dst)
     (omega (arith, scatter-length place n (gather place n src) dst, tl, length-append (take n src) (drop (length (take n src)) dst), length-drop (length (take n src)) dst))
-    (λ x p. at x (lib.Dec.ltb x n) refl)
+    (λ x p. at x (ltb x n) refl)
   where
     tl : length (take n src) ≡ n
     tl = length-take-le n src h
 
-    at : (x : ℕ) → (t : Bool) → lib.Dec.ltb x n ≡ t → getD (scatter place n (gather place n src) dst) x 0 ≡ getD (written (take n src) dst) x 0
+    at : (x : ℕ) → (t : Bool) → ltb x n ≡ t → getD (scatter place n (gather place n src) dst) x 0 ≡ getD (written (take n src) dst) x 0
     at x true e =
-        let q = o x (borrow.Author.Tests.ltb-true x n e) in
+        let q = o x (ltb-true x n e) in
         ap (λ (y : ℕ). getD (scatter place n (gather place n src) dst) y 0) (sym (q .2))
         ∙ scatter-hit place n (gather place n src) dst a (λ i p. omega (arith, w i p)) (q .0) (q .1)
         ∙ gather-at place n src (q .0) (q .1) ∙ ap (λ (y : ℕ). getD src y 0) (q .2)
-        ∙ sym (List·getD-append (take n src) (drop (length (take n src)) dst) 0 x (omega (arith, tl, borrow.Author.Tests.ltb-true x n e))
-        ∙ getD-take n src x 0 (borrow.Author.Tests.ltb-true x n e))
+        ∙ sym (List·getD-append (take n src) (drop (length (take n src)) dst) 0 x (omega (arith, tl, ltb-true x n e))
+        ∙ getD-take n src x 0 (ltb-true x n e))
     at x false e =
-        let l = borrow.Author.Tests.ltb-false x n e in
+        let l = ltb-false x n e in
         let s : x ≡ length (take n src) + (x - n) = omega (arith, tl) in
         scatter-miss place n (gather place n src) dst x (λ i p q. omega (arith, w i p))
         ∙ sym (ap (λ (y : ℕ). getD (written (take n src) dst) y 0) s ∙ getD-append-add (take n src) (drop (length (take n src)) dst) (x - n) 0
         ∙ getD-drop (length (take n src)) dst (x - n) 0 ∙ ap (λ (y : ℕ). getD dst y 0) (sym s))
+
+-- where the places fill the front of the target, what is scattered is written over the front
+pub scatter-over : (place : ℕ → ℕ) (n : ℕ) (src blank dst : List ℕ) → Apart place n → Within place n n → Onto place n → length blank ≡ n → n ≤ length dst
+    → scatter place n src dst ≡ written (scatter place n src blank) dst
+scatter-over place n src blank dst a w o l h =
+    ext-getD 0 (scatter place n src dst) (written front dst)
+    (omega (arith, scatter-length place n src dst, long, length-append front (drop (length front) dst), length-drop (length front) dst))
+    (λ x k. at x (ltb x n) refl)
+  where
+    front : List ℕ
+    front = scatter place n src blank
+
+    long : length front ≡ n
+    long = scatter-length place n src blank ∙ l
+
+    at : (x : ℕ) → (t : Bool) → ltb x n ≡ t → getD (scatter place n src dst) x 0 ≡ getD (written front dst) x 0
+    at x true e =
+        let q = o x (ltb-true x n e) in
+        ap (λ (y : ℕ). getD (scatter place n src dst) y 0) (sym (q .2))
+        ∙ scatter-hit place n src dst a (λ i p. omega (arith, w i p)) (q .0) (q .1)
+        ∙ sym (List·getD-append front (drop (length front) dst) 0 x (omega (arith, long, ltb-true x n e))
+        ∙ ap (λ (y : ℕ). getD front y 0) (sym (q .2)) ∙ scatter-hit place n src blank a (λ i p. omega (arith, w i p)) (q .0) (q .1))
+    at x false e =
+        let s : x ≡ length front + (x - n) = omega (arith, long, ltb-false x n e) in
+        scatter-miss place n src dst x (λ i p q. omega (arith, w i p, ltb-false x n e))
+        ∙ sym (ap (λ (y : ℕ). getD (written front dst) y 0) s ∙ getD-append-add front (drop (length front) dst) (x - n) 0
+        ∙ getD-drop (length front) dst (x - n) 0 ∙ ap (λ (y : ℕ). getD dst y 0) (sym s))

@@ -1,7 +1,7 @@
 // Shared among our own crates: these ask something of their caller.
 ghost use mathlib.Core.Path.{_≡_};
 ghost use Prim.Native.Nat.{_≤_};
-ghost use lib.ListN.{length};
+ghost use lib.ListN.{length, take};
 ghost use Rattle.base.specs.Bits.{bitsOnly};
 
 // Whether the first n entries are bits.
@@ -17,4 +17,16 @@ pub fn bits_only(s: &[u8], n: usize) -> bool
         i += 1;
     }
     true
+}
+
+// The front of the source over the whole target.
+pub fn copy(source: &[u8], target: &mut [u8])
+    requires { ⌜ length (now target) ≤ length (now source) ⌝ }
+    ensures { λ _. ⌜ now (target .exit) ≡ take (length (now (target .entry))) (now (source .entry)) ⌝ }
+{
+    let mut i: usize = 0;
+    while i < target.len() {
+        target[i] = source[i];
+        i += 1;
+    }
 }

@@ -1,3 +1,4 @@
 pub mod Generators
 pub mod Puncturing
+pub mod Walk
 pub mod Comparing

@@ -1,1 +1,519 @@
-// convenc
+// The mother codes of control and speech, puncturing in seven modes, and the comparison of mother words.
+// Ported from lmac/components/convenc.rs; changed: an encoder's state goes in by value and is handed back, what the original
+// panics on is refused by number, a mode is a number, and its P, t and period stand in flat tables. A caller gets the whole
+// output or, with a refusal, nothing written and the state as it was.
+ghost use mathlib.Core.Path.{_≡_};
+ghost use mathlib.Core.List.{[], _∷_};
+ghost use Prim.Native.Nat.{ℕ, _+_, _≤_, _<_, min};
+ghost use lib.ListN.{length};
+ghost use Rattle.base.specs.Refusal.{accepted, outcome, unless};
+ghost use Rattle.base.specs.Places.{written};
+ghost use Rattle.trellis.specs.Nearest.{encode};
+ghost use Rattle.convenc.specs.Generators.{control, controlThird, speech, outputs, held, delays, encodeRefusal, Encoded};
+ghost use Rattle.convenc.specs.Puncturing.{needed, punctureRefusal, depunctureRefusal, punctured, depunctured};
+ghost use Rattle.convenc.specs.Walk.{Sound, Parameters, Lies, Stands};
+ghost use Rattle.convenc.specs.Comparing.{compare, compared};
+use base::Outcome;
+
+// The control encoder: the last four bits it took, the newest first.
+pub struct ConvEncState {
+    pub delayed: [u8; 4],
+}
+
+// What the control encoder answers, and the state to go on from.
+pub struct ConvEncoded {
+    pub outcome: Outcome,
+    pub state: ConvEncState,
+}
+
+// The speech encoder: the last four bits it took, the newest first.
+pub struct SpeechConvEncState {
+    pub delayed: [u8; 4],
+}
+
+// What the speech encoder answers, and the state to go on from.
+pub struct SpeechConvEncoded {
+    pub outcome: Outcome,
+    pub state: SpeechConvEncState,
+}
+
+// Which refusal an encoder of this rate owes, 0 for none.
+fn encode_refusal(rate: usize, delayed: [u8; 4], input: &[u8], room: usize) -> u8
+    requires { ⌜ rate ≤ 4 ⌝ }
+    ensures { λ r. ⌜ r ≡ encodeRefusal rate delayed (now (input .entry)) room ⌝ }
+{
+    let n = input.len();
+    if n == 0 {
+        return 0;
+    }
+    if 4096 < n {
+        return 1;
+    }
+    if room < rate * n {
+        return 3;
+    }
+    if !base::inner::bits_only(input, n) {
+        return 4;
+    }
+    if !base::inner::bits_only(&delayed, 4) {
+        return 4;
+    }
+    0
+}
+
+impl ConvEncState {
+    // An encoder that has taken nothing.
+    pub fn new() -> Self
+        ensures { λ r. ⌜ r .delayed ≡ 0 ∷ 0 ∷ 0 ∷ 0 ∷ [] ⌝ }
+    {
+        ConvEncState { delayed: [0; 4] }
+    }
+
+    // The same encoder, as if it had taken nothing.
+    pub fn reset(self) -> Self
+        ensures { λ r. ⌜ r .delayed ≡ 0 ∷ 0 ∷ 0 ∷ 0 ∷ [] ⌝ }
+    {
+        ConvEncState::new()
+    }
+
+    // The state after one more bit.
+    fn after(self, bit: u8) -> Self
+        ensures { λ r. ⌜ r .delayed ≡ delays (self .delayed) (bit ∷ []) ⌝ }
+    {
+        let d = self.delayed;
+        ConvEncState {
+            delayed: [bit, d[0], d[1], d[2]],
+        }
+    }
+
+    fn encode_from(self, input: &[u8], output: &mut [u8]) -> Self
+        requires { ⌜ encodeRefusal 4 (self .delayed) (now input) (length (now output)) ≡ accepted ⌝ }
+        ensures { λ r. ⌜ (r .delayed ≡ delays (self .delayed) (now (input .entry)))
+            × (now (output .exit) ≡ written (encode (outputs control) (held (self .delayed)) (now (input .entry))) (now (output .entry))) ⌝ }
+    {
+        let mut s = self;
+        let mut i: usize = 0;
+        let mut at: usize = 0;
+        while i < input.len() {
+            let b = input[i];
+            let d = s.delayed;
+            let d0 = d[0];
+            let d1 = d[1];
+            let d2 = d[2];
+            let d3 = d[3];
+            output[at] = b ^ d0 ^ d3;
+            output[at + 1] = b ^ d1 ^ d2 ^ d3;
+            output[at + 2] = b ^ d0 ^ d1 ^ d3;
+            output[at + 3] = b ^ d0 ^ d2 ^ d3;
+            s = s.after(b);
+            at += 4;
+            i += 1;
+        }
+        s
+    }
+
+    // The rate 1/4 mother code of the input, four entries for each bit.
+    pub fn encode(self, input: &[u8], output: &mut [u8]) -> ConvEncoded
+        ensures { λ r. ⌜ Encoded control (self .delayed) (now (input .entry)) (now (output .entry)) (r .outcome) (r .state .delayed) (now (output .exit)) ⌝ }
+    {
+        let delayed = self.delayed;
+        let refusal = encode_refusal(4, delayed, input, output.len());
+        if refusal != 0 {
+            return ConvEncoded {
+                outcome: Outcome::Refused(refusal),
+                state: self,
+            };
+        }
+        let state = self.encode_from(input, output);
+        ConvEncoded {
+            outcome: Outcome::Done,
+            state: state,
+        }
+    }
+
+    fn encode_rate1_3_from(self, input: &[u8], output: &mut [u8]) -> Self
+        requires { ⌜ encodeRefusal 3 (self .delayed) (now input) (length (now output)) ≡ accepted ⌝ }
+        ensures { λ r. ⌜ (r .delayed ≡ delays (self .delayed) (now (input .entry)))
+            × (now (output .exit) ≡ written (encode (outputs controlThird) (held (self .delayed)) (now (input .entry))) (now (output .entry))) ⌝ }
+    {
+        let mut s = self;
+        let mut i: usize = 0;
+        let mut at: usize = 0;
+        while i < input.len() {
+            let b = input[i];
+            let d = s.delayed;
+            let d0 = d[0];
+            let d1 = d[1];
+            let d2 = d[2];
+            let d3 = d[3];
+            output[at] = b ^ d0 ^ d3;
+            output[at + 1] = b ^ d1 ^ d2 ^ d3;
+            output[at + 2] = b ^ d0 ^ d1 ^ d3;
+            s = s.after(b);
+            at += 3;
+            i += 1;
+        }
+        s
+    }
+
+    // The first three generators of the control code, three entries for each bit.
+    pub fn encode_rate1_3(self, input: &[u8], output: &mut [u8]) -> ConvEncoded
+        ensures { λ r. ⌜ Encoded controlThird (self .delayed) (now (input .entry)) (now (output .entry)) (r .outcome) (r .state .delayed) (now (output .exit)) ⌝ }
+    {
+        let delayed = self.delayed;
+        let refusal = encode_refusal(3, delayed, input, output.len());
+        if refusal != 0 {
+            return ConvEncoded {
+                outcome: Outcome::Refused(refusal),
+                state: self,
+            };
+        }
+        let state = self.encode_rate1_3_from(input, output);
+        ConvEncoded {
+            outcome: Outcome::Done,
+            state: state,
+        }
+    }
+}
+
+impl SpeechConvEncState {
+    // An encoder that has taken nothing.
+    pub fn new() -> Self
+        ensures { λ r. ⌜ r .delayed ≡ 0 ∷ 0 ∷ 0 ∷ 0 ∷ [] ⌝ }
+    {
+        SpeechConvEncState { delayed: [0; 4] }
+    }
+
+    // The same encoder, as if it had taken nothing.
+    pub fn reset(self) -> Self
+        ensures { λ r. ⌜ r .delayed ≡ 0 ∷ 0 ∷ 0 ∷ 0 ∷ [] ⌝ }
+    {
+        SpeechConvEncState::new()
+    }
+
+    // The state after one more bit.
+    fn after(self, bit: u8) -> Self
+        ensures { λ r. ⌜ r .delayed ≡ delays (self .delayed) (bit ∷ []) ⌝ }
+    {
+        let d = self.delayed;
+        SpeechConvEncState {
+            delayed: [bit, d[0], d[1], d[2]],
+        }
+    }
+
+    fn encode_from(self, input: &[u8], output: &mut [u8]) -> Self
+        requires { ⌜ encodeRefusal 3 (self .delayed) (now input) (length (now output)) ≡ accepted ⌝ }
+        ensures { λ r. ⌜ (r .delayed ≡ delays (self .delayed) (now (input .entry)))
+            × (now (output .exit) ≡ written (encode (outputs speech) (held (self .delayed)) (now (input .entry))) (now (output .entry))) ⌝ }
+    {
+        let mut s = self;
+        let mut i: usize = 0;
+        let mut at: usize = 0;
+        while i < input.len() {
+            let b = input[i];
+            let d = s.delayed;
+            let d0 = d[0];
+            let d1 = d[1];
+            let d2 = d[2];
+            let d3 = d[3];
+            output[at] = b ^ d0 ^ d1 ^ d2 ^ d3;
+            output[at + 1] = b ^ d0 ^ d2 ^ d3;
+            output[at + 2] = b ^ d1 ^ d3;
+            s = s.after(b);
+            at += 3;
+            i += 1;
+        }
+        s
+    }
+
+    // The speech mother code of the input, three entries for each bit.
+    pub fn encode(self, input: &[u8], output: &mut [u8]) -> SpeechConvEncoded
+        ensures { λ r. ⌜ Encoded speech (self .delayed) (now (input .entry)) (now (output .entry)) (r .outcome) (r .state .delayed) (now (output .exit)) ⌝ }
+    {
+        let delayed = self.delayed;
+        let refusal = encode_refusal(3, delayed, input, output.len());
+        if refusal != 0 {
+            return SpeechConvEncoded {
+                outcome: Outcome::Refused(refusal),
+                state: self,
+            };
+        }
+        let state = self.encode_from(input, output);
+        SpeechConvEncoded {
+            outcome: Outcome::Done,
+            state: state,
+        }
+    }
+}
+
+// The modes are 2_3, 1_3, 292_432, 148_432, 112_168, 72_162, 38_80. Each one's P, one after another.
+const P: [usize; 47] = [
+    1,
+    2,
+    5,
+    1,
+    2,
+    3,
+    5,
+    6,
+    7,
+    1,
+    2,
+    5,
+    1,
+    2,
+    3,
+    5,
+    6,
+    7,
+    1,
+    2,
+    4,
+    1,
+    2,
+    3,
+    4,
+    5,
+    7,
+    8,
+    10,
+    11,
+    1,
+    2,
+    3,
+    4,
+    5,
+    7,
+    8,
+    10,
+    11,
+    13,
+    14,
+    16,
+    17,
+    19,
+    20,
+    22,
+    23,
+];
+
+// Where each mode's P begins.
+const P_START: [usize; 7] = [0, 3, 9, 12, 18, 21, 30];
+
+const T: [usize; 7] = [3, 6, 3, 6, 3, 9, 17];
+
+const PERIOD: [usize; 7] = [8, 8, 8, 8, 6, 12, 24];
+
+// After how many outputs i(j) passes a position over. No count goes past 4,096, so that stands for never.
+const RUN: [usize; 7] = [4096, 4096, 65, 35, 4096, 4096, 4096];
+
+struct Puncturer {
+    start: usize,
+    t: usize,
+    period: usize,
+    run: usize,
+}
+
+// Where the next output is kept from: entry index of P, in the period whose mother entries begin at base.
+// Before the output numbered skip a position is passed over.
+struct Kept {
+    base: usize,
+    index: usize,
+    skip: usize,
+}
+
+fn get_puncturer(mode: u8) -> Puncturer
+    requires { ⌜ mode ≤ 6 ⌝ }
+    ensures { λ r. ⌜ Parameters mode r ⌝ }
+{
+    let m = mode as usize;
+    Puncturer {
+        start: P_START[m],
+        t: T[m],
+        period: PERIOD[m],
+        run: RUN[m],
+    }
+}
+
+// How many mother entries n outputs need: the position of the last.
+fn needed(mode: u8, n: usize) -> usize
+    requires { ⌜ (mode ≤ 6) × (n ≤ 4096) ⌝ }
+    ensures { λ r. ⌜ r ≡ needed mode n ⌝ }
+{
+    if n == 0 {
+        return 0;
+    }
+    let p = get_puncturer(mode);
+    let j = n - 1;
+    let x = j + j / p.run;
+    let at = p.start + x % p.t;
+    p.period * (x / p.t) + P[at]
+}
+
+// The place that is by entries of P further on.
+fn moved(p: Puncturer, at: Kept, by: usize, skip: usize) -> Kept
+    requires { ⌜ Sound p × (by ≤ 2) × (at .index < p .t) × (at .base < 1000000) ⌝ }
+    ensures { λ r. ⌜ (r .skip ≡ skip) × ((x : ℕ) → Lies p x at → Lies p (x + by) r) ⌝ }
+{
+    let index = at.index + by;
+    if index < p.t {
+        return Kept {
+            base: at.base,
+            index: index,
+            skip: skip,
+        };
+    }
+    Kept {
+        base: at.base + p.period,
+        index: index - p.t,
+        skip: skip,
+    }
+}
+
+// The place of output j + 1, from that of output j.
+fn next(p: Puncturer, j: usize, at: Kept) -> Kept
+    requires { ⌜ Sound p × Stands p j at × (j < 4096) ⌝ }
+    ensures { λ r. ⌜ Stands p (j + 1) r ⌝ }
+{
+    if j + 1 == at.skip {
+        return moved(p, at, 2, at.skip + p.run);
+    }
+    moved(p, at, 1, at.skip)
+}
+
+fn puncture(mode: u8, input: &[u8], len: usize, output: &mut [u8])
+    requires { ⌜ punctureRefusal mode len (length (now input)) (length (now output)) ≡ accepted ⌝ }
+    ensures { λ _. ⌜ now (output .exit) ≡ written (punctured mode len (now (input .entry))) (now (output .entry)) ⌝ }
+{
+    let p = get_puncturer(mode);
+    let kept = P;
+    let mut at = Kept {
+        base: 0,
+        index: 0,
+        skip: p.run,
+    };
+    let mut j: usize = 0;
+    while j < len {
+        let entry = p.start + at.index;
+        let place = at.base + kept[entry] - 1;
+        output[j] = input[place];
+        at = next(p, j, at);
+        j += 1;
+    }
+}
+
+fn depuncture(mode: u8, input: &[u8], len: usize, output: &mut [u8])
+    requires { ⌜ depunctureRefusal mode len (length (now input)) (length (now output)) ≡ accepted ⌝ }
+    ensures { λ _. ⌜ now (output .exit) ≡ depunctured mode len (now (input .entry)) (now (output .entry)) ⌝ }
+{
+    let p = get_puncturer(mode);
+    let kept = P;
+    let mut at = Kept {
+        base: 0,
+        index: 0,
+        skip: p.run,
+    };
+    let mut j: usize = 0;
+    while j < len {
+        let entry = p.start + at.index;
+        let place = at.base + kept[entry] - 1;
+        output[place] = input[j];
+        at = next(p, j, at);
+        j += 1;
+    }
+}
+
+fn puncture_refusal(mode: u8, n: usize, source: usize, room: usize) -> u8
+    ensures { λ r. ⌜ r ≡ punctureRefusal mode n source room ⌝ }
+{
+    if 6 < mode {
+        return 8;
+    }
+    if 4096 < n {
+        return 1;
+    }
+    if source < needed(mode, n) {
+        return 2;
+    }
+    if room < n {
+        return 3;
+    }
+    0
+}
+
+fn depuncture_refusal(mode: u8, n: usize, source: usize, room: usize) -> u8
+    ensures { λ r. ⌜ r ≡ depunctureRefusal mode n source room ⌝ }
+{
+    if 6 < mode {
+        return 8;
+    }
+    if 4096 < n {
+        return 1;
+    }
+    if source < n {
+        return 2;
+    }
+    if room < needed(mode, n) {
+        return 3;
+    }
+    0
+}
+
+// The outputs numbered 1 to len that the mode keeps of a mother word.
+pub fn get_punctured_rate(mode: u8, input: &[u8], len: usize, output: &mut [u8]) -> Outcome
+    ensures { λ r. ⌜ (r ≡ outcome (punctureRefusal mode len (length (now (input .entry))) (length (now (output .entry)))))
+        × (now (output .exit) ≡ unless (punctureRefusal mode len (length (now (input .entry))) (length (now (output .entry))))
+        (written (punctured mode len (now (input .entry))) (now (output .entry))) (now (output .entry))) ⌝ }
+{
+    let refusal = puncture_refusal(mode, len, input.len(), output.len());
+    if refusal != 0 {
+        return Outcome::Refused(refusal);
+    }
+    puncture(mode, input, len, output);
+    Outcome::Done
+}
+
+// The len entries back at their mother places. What is not kept stays as it was.
+pub fn tetra_rcpc_depunct(mode: u8, input: &[u8], len: usize, output: &mut [u8]) -> Outcome
+    ensures { λ r. ⌜ (r ≡ outcome (depunctureRefusal mode len (length (now (input .entry))) (length (now (output .entry)))))
+        × (now (output .exit) ≡ unless (depunctureRefusal mode len (length (now (input .entry))) (length (now (output .entry))))
+        (depunctured mode len (now (input .entry)) (now (output .entry))) (now (output .entry))) ⌝ }
+{
+    let refusal = depuncture_refusal(mode, len, input.len(), output.len());
+    if refusal != 0 {
+        return Outcome::Refused(refusal);
+    }
+    depuncture(mode, input, len, output);
+    Outcome::Done
+}
+
+// How many entries matched, or that some entry differs.
+pub enum Compared {
+    Matched(usize),
+    Differs,
+}
+
+fn shorter(a: usize, b: usize) -> usize
+    ensures { λ r. ⌜ r ≡ min a b ⌝ }
+{
+    if a < b { a } else { b }
+}
+
+// A mother word against a depunctured one, up to the shorter length. Entries 0xff of the depunctured one are skipped.
+pub fn mother_memcmp(mother: &[u8], depunct: &[u8]) -> Compared
+    ensures { λ r. ⌜ r ≡ compared (compare (now (mother .entry)) (now (depunct .entry))) ⌝ }
+{
+    let n = shorter(mother.len(), depunct.len());
+    let mut matched: usize = 0;
+    for i in 0..n {
+        let d = depunct[i];
+        if d == 0xff {
+            continue;
+        }
+        if d != mother[i] {
+            return Compared::Differs;
+        }
+        matched += 1;
+    }
+    Compared::Matched(matched)
+}

@@ -1,13 +1,15 @@
 -- The check register of ITU-T, a bit at a time, and the control check of EN 300 392-2, 8.2.3.3.
 -- Assumes nothing.
 use mathlib.Core.List.{List, [], _∷_}
-use Prim.Native.Nat.{ℕ, _+_, _-_, _*_, _/_, _%_, _^_}
+use Prim.Native.Nat.{ℕ, zero, suc, _+_, _-_, _*_, _/_, _%_, _^_}
 use lib.Bits.{bitXor}
 use lib.Dec.{ltb}
 use lib.ListN.{length, getD}
 use Rattle.base.specs.Refusal.{SHORT, accepted, when}
 use Rattle.base.specs.Digits.{digits}
 use Rattle.base.specs.Places.{tabulate}
+use Rattle.crc16.specs.declared.Register.{Register}
+use Rattle.crc16.specs.declared.Register.the-variants.{Value, Refused}
 
 -- the generator without its top term
 abbrev pub GENERATOR : ℕ
@@ -37,6 +39,15 @@ bitsOf bytes n = tabulate (bitOf bytes) n
 -- the byte form is SHORT past 8 times the length
 abbrev pub bytesRefusal : List ℕ → ℕ → ℕ
 bytesRefusal bytes n = when (ltb (8 * length bytes) n) SHORT accepted
+
+-- the answer that carries a register
+abbrev pub answer : ℕ → ℕ → Register
+answer zero value = Value value
+answer (suc number) value = Refused (suc number)
+
+-- the byte form: the register after the first n bits of bytes, unless they are short
+abbrev pub bytesAnswer : ℕ → List ℕ → ℕ → Register
+bytesAnswer reg bytes n = answer (bytesRefusal bytes n) (register reg (bitsOf bytes n))
 
 -- the 16 check bits of data: register from all ones, complemented, most significant bit first
 unfoldable pub check : List ℕ → List ℕ

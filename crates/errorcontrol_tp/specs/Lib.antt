@@ -1,1 +1,2 @@
 pub mod Speech
+pub mod OnAir

@@ -5,7 +5,12 @@ use mathlib.Core.Bool.{Bool, true, false, not}
 use Prim.Native.Nat.{ℕ, zero, suc, _+_, _*_}
 use lib.Dec.{ltb, eqb}
 use lib.ListN.{length, take, drop, replicate}
-use Rattle.base.specs.Refusal.{SHORT, ROOM, BIT, accepted, when}
+use mathlib.Core.Path.{_≡_}
+use Rattle.base.specs.declared.Outcome.{Outcome}
+use Rattle.base.specs.declared.Counts.{Counts}
+use Rattle.base.specs.declared.Received.{Received}
+use Rattle.base.specs.Refusal.{SHORT, ROOM, BIT, accepted, when, unless, outcome, reception}
+use Rattle.base.specs.Places.{written}
 use Rattle.base.specs.Bits.{both, bitsOnly, ERASED}
 use Rattle.trellis.specs.Nearest.{encode}
 use Rattle.convenc.specs.Generators.{outputs, speech}
@@ -99,6 +104,21 @@ slotDisagreements start air = disagreements speech 184 (motherOf (blockOf start 
 abbrev pub supplied : List ℕ → List ℕ
 supplied air = replicate 216 ERASED ++ take 216 air
 
+abbrev pub countsOf : ℕ → List ℕ → Counts
+countsOf start air = record { disagreements = slotDisagreements start air }
+
 -- START comes last in document 01's order and is never given: the walk back always ends in state 0
 abbrev pub receiveRefusal : ℕ → ℕ → ℕ → ℕ → ℕ
 receiveRefusal airCount src dst trellis = when (ltb src airCount) SHORT (when (ltb dst 274) ROOM (when (ltb trellis 184) ROOM accepted))
+
+-- ---- what the entries owe
+-- what a send entry answers and leaves in its target, when it sends so many symbols
+pub record Sends (count : ℕ) (symbols codec air : List ℕ) (answer : Outcome) (air′ : List ℕ) : Type 0 where
+  pub answered : answer ≡ outcome (sendRefusal count codec (length air))
+  pub target : air′ ≡ unless (sendRefusal count codec (length air)) (written symbols air) air
+
+-- what a receive entry answers and leaves in its target and in the trellis, when the slot that it has is `slot`: Bad writes too
+pub record Receives (count start : ℕ) (air slot codec trellis : List ℕ) (answer : Received) (codec′ trellis′ : List ℕ) : Type 0 where
+  pub answered : answer ≡ reception (receiveRefusal count (length air) (length codec) (length trellis)) (isGood start slot) (countsOf start slot)
+  pub target : codec′ ≡ unless (receiveRefusal count (length air) (length codec) (length trellis)) (written (codecBits start slot) codec) codec
+  pub cleared : trellis′ ≡ unless (receiveRefusal count (length air) (length codec) (length trellis)) (written (replicate 184 0) trellis) trellis

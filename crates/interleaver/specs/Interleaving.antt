@@ -2,10 +2,9 @@
 -- Entries and places are counted from 0 here: place i of 1..k is entry i - 1.
 -- Assumes nothing.
 use mathlib.Core.List.{List}
-use mathlib.Core.Bool.{Bool, true, false}
+use mathlib.Core.Bool.{Bool, false}
 use Prim.Native.Nat.{ℕ, zero, suc, _+_, _*_, _/_, _%_}
 use lib.Dec.{ltb, eqb}
-use lib.ListN.{length}
 use Rattle.base.specs.Refusal.{LIMIT, SHORT, ROOM, SHUFFLE, accepted, when}
 use Rattle.base.specs.Bits.{both, either}
 use Rattle.base.specs.Places.{gather, scatter}
@@ -28,6 +27,7 @@ unfoldable pub shared : ℕ → ℕ → Bool
 shared zero a = false
 shared (suc k) a = sharedUpTo k (suc k) a
 
+-- what is refused for src entries of source and dst of target
 abbrev pub blockRefusal : ℕ → ℕ → ℕ → ℕ → ℕ
 blockRefusal k a src dst =
     when (ltb 4096 k) LIMIT (when (ltb 65535 a) LIMIT (when (shared k a) SHUFFLE (when (ltb src k) SHORT (when (ltb dst k) ROOM accepted))))
@@ -44,6 +44,7 @@ deinterleaved k a src = gather (place k a) k src
 abbrev pub turned : ℕ → ℕ → ℕ → ℕ
 turned lines columns x = x % columns * lines + x / columns
 
+-- what is refused for src entries of source and dst of target
 abbrev pub matrixRefusal : ℕ → ℕ → ℕ → ℕ → ℕ
 matrixRefusal lines columns src dst =
     when (ltb 4096 lines) LIMIT
@@ -51,8 +52,10 @@ matrixRefusal lines columns src dst =
     (when (ltb 4096 (lines * columns)) LIMIT
     (when (ltb src (lines * columns)) SHORT (when (ltb dst (lines * columns)) ROOM accepted))))
 
+-- the target after interleaving: each entry at its place, the rest as it was
 abbrev pub matrixInterleaved : ℕ → ℕ → List ℕ → List ℕ → List ℕ
 matrixInterleaved lines columns src dst = scatter (turned lines columns) (lines * columns) src dst
 
+-- the lines * columns entries that deinterleaving writes
 abbrev pub matrixDeinterleaved : ℕ → ℕ → List ℕ → List ℕ
 matrixDeinterleaved lines columns src = gather (turned lines columns) (lines * columns) src

@@ -1,13 +1,15 @@
 -- The scrambling register of EN 300 392-2, 8.2.5, and what sending and receiving make of a block.
 -- Assumes nothing.
 use mathlib.Core.List.{List, [], _∷_}
-use mathlib.Core.Bool.{Bool, true, false, not}
+use mathlib.Core.Bool.{not}
 use Prim.Native.Nat.{ℕ, zero, suc, _+_, _*_, _/_, _%_, _^_}
 use lib.Dec.{ltb}
 use lib.ListN.{length, getD}
 use Rattle.base.specs.Refusal.{BIT, FIELD, accepted, when}
 use Rattle.base.specs.Bits.{bitsOnly, ERASED}
 use Rattle.base.specs.Places.{tabulate}
+use Rattle.scrambler.specs.declared.Start.{Start}
+use Rattle.scrambler.specs.declared.Start.the-variants.{Value, Refused}
 
 -- the bits of the register that are summed
 abbrev pub taps : List ℕ
@@ -18,6 +20,7 @@ abbrev pub tapSum : List ℕ → ℕ → ℕ
 tapSum [] x = 0
 tapSum (t ∷ ts) x = x / 2 ^ t % 2 + tapSum ts x
 
+-- the new bit is the sum of the taps mod 2
 unfoldable pub newBit : ℕ → ℕ
 newBit x = tapSum taps x % 2
 
@@ -25,26 +28,42 @@ newBit x = tapSum taps x % 2
 unfoldable pub next : ℕ → ℕ
 next x = x / 2 + newBit x * 2 ^ 31
 
+-- the register after n shifts
+unfoldable pub nexts : ℕ → ℕ → ℕ
+nexts x zero = x
+nexts x (suc n) = next (nexts x n)
+
 -- output i from the start x, counted from 0
 unfoldable pub output : ℕ → ℕ → ℕ
 output x zero = newBit x
 output x (suc i) = output (next x) i
 
 -- ---- the start value
+-- FIELD where mcc is over 1,023, mnc over 16,383 or colour over 63
 abbrev pub fieldRefusal : ℕ → ℕ → ℕ → ℕ
 fieldRefusal mcc mnc colour =
     when (ltb 1023 mcc) FIELD (when (ltb 16383 mnc) FIELD (when (ltb 63 colour) FIELD accepted))
 
--- colour 0 gives 0, as in the Rust
+-- 4 times (colour + 64 mnc + 2^20 mcc), plus 3; colour 0 gives 0, as in the Rust
 unfoldable pub startValue : ℕ → ℕ → ℕ → ℕ
 startValue mcc mnc zero = 0
 startValue mcc mnc (suc c) = 4 * (suc c + 64 * mnc + 2 ^ 20 * mcc) + 3
+
+-- the answer that carries a start value
+abbrev pub answer : ℕ → ℕ → Start
+answer zero value = Value value
+answer (suc number) value = Refused (suc number)
+
+-- the start value of the three fields, unless one is refused
+abbrev pub startAnswer : ℕ → ℕ → ℕ → Start
+startAnswer mcc mnc colour = answer (fieldRefusal mcc mnc colour) (startValue mcc mnc colour)
 
 -- ---- a block
 -- sending adds the outputs to the bits mod 2
 abbrev pub scrambled : ℕ → List ℕ → List ℕ
 scrambled x block = tabulate (λ i. (getD block i 0 + output x i) % 2) (length block)
 
+-- BIT where an entry of the block is no bit
 abbrev pub sendRefusal : List ℕ → ℕ
 sendRefusal block = when (not (bitsOnly (length block) block)) BIT accepted
 
@@ -54,5 +73,6 @@ descrambledSymbol zero y = y
 descrambledSymbol (suc zero) y = (1 + y) % 2
 descrambledSymbol (suc (suc r)) y = ERASED
 
+-- each symbol of a block with its output
 abbrev pub descrambled : ℕ → List ℕ → List ℕ
 descrambled x block = tabulate (λ i. descrambledSymbol (getD block i 0) (output x i)) (length block)

@@ -1,1 +1,123 @@
-// scrambler
+// The scrambling register, and what it makes of a block that holds one bit, or one received symbol, in each entry.
+// Ported from lmac/components/scrambler.rs; changed: a block is a lent slice, sending refuses what is no bit, receiving is a
+// form of its own that keeps erasures, and fields out of range are refused. A caller gets its block scrambled in place.
+ghost use mathlib.Core.Path.{_≡_};
+ghost use Prim.Native.Nat.{_+_, _/_, _%_, _^_, _<_};
+ghost use lib.ListN.{length};
+ghost use Rattle.base.specs.Refusal.{outcome, unless};
+ghost use Rattle.base.specs.Places.{tabulate};
+ghost use Rattle.scrambler.specs.Scrambling.{nexts, output, startAnswer, scrambled, sendRefusal, descrambledSymbol, descrambled};
+
+// The start value of the synchronization channel, BSCH.
+pub const SCRAMB_INIT: u32 = 3;
+
+// What the start value's entry answers.
+pub enum Start {
+    Value(u32),
+    Refused(u8),
+}
+
+// The register after eight shifts. The bits that entered, which are the outputs, stand in its upper eight places, the first
+// lowest.
+fn next_eight(x: u32) -> u32
+    ensures { λ r. ⌜ r ≡ nexts x 8 ⌝ }
+{
+    let own = (x
+        ^ (x >> 6)
+        ^ (x >> 9)
+        ^ (x >> 10)
+        ^ (x >> 16)
+        ^ (x >> 20)
+        ^ (x >> 21)
+        ^ (x >> 22)
+        ^ (x >> 24)
+        ^ (x >> 25)
+        ^ (x >> 27)
+        ^ (x >> 28)
+        ^ (x >> 30)
+        ^ (x >> 31))
+        % 256;
+    // An output of the eight comes to the highest taps while the others are made.
+    let outputs = (own ^ (own * 2) ^ (own * 8) ^ (own * 32) ^ (own * 128)) % 256;
+    x / 256 + outputs * 0x100_0000
+}
+
+// The register that holds output i, from the one that held the output before it.
+fn register_at(lfsr: u32, i: usize) -> u32
+    ensures { λ r. ⌜ (i % 8 ≡ 0 → r ≡ nexts lfsr 8) × ((i % 8 ≡ 0 → ⊥) → r ≡ lfsr) ⌝ }
+{
+    if i % 8 == 0 { next_eight(lfsr) } else { lfsr }
+}
+
+// Output i, of the register that holds it.
+fn output_at(lfsr: u32, i: usize) -> u8
+    ensures { λ r. ⌜ r ≡ lfsr / 2 ^ (24 + i % 8) % 2 ⌝ }
+{
+    ((lfsr >> (24 + i % 8)) % 2) as u8
+}
+
+// A received symbol with an output taken off.
+fn descramble_symbol(symbol: u8, bit: u8) -> u8
+    requires { ⌜ bit < 2 ⌝ }
+    ensures { λ r. ⌜ r ≡ descrambledSymbol symbol bit ⌝ }
+{
+    if 1 < symbol { 0xff } else { symbol ^ bit }
+}
+
+// The outputs of the register, over the whole of out.
+pub fn tetra_scramb_get_bits(lfsr_init: u32, out: &mut [u8])
+    ensures { λ r. ⌜ now (out .exit) ≡ tabulate (output «lfsr_init») (length (now (out .entry))) ⌝ }
+{
+    let mut lfsr = lfsr_init;
+    let mut i: usize = 0;
+    while i < out.len() {
+        lfsr = register_at(lfsr, i);
+        out[i] = output_at(lfsr, i);
+        i += 1;
+    }
+}
+
+// Receiving: a block of symbols without its scrambling. Every byte but 0 and 1 becomes an erasure.
+pub fn tetra_descramb_bits(lfsr_init: u32, block: &mut [u8])
+    ensures { λ r. ⌜ now (block .exit) ≡ descrambled «lfsr_init» (now (block .entry)) ⌝ }
+{
+    let mut lfsr = lfsr_init;
+    let mut i: usize = 0;
+    while i < block.len() {
+        lfsr = register_at(lfsr, i);
+        block[i] = descramble_symbol(block[i], output_at(lfsr, i));
+        i += 1;
+    }
+}
+
+// Sending: a block of bits scrambled. BIT, and nothing is changed, where an entry is no bit.
+pub fn tetra_scramb_bits(lfsr_init: u32, block: &mut [u8]) -> base::Outcome
+    ensures { λ r. ⌜ (r ≡ outcome (sendRefusal (now (block .entry)))) × (now (block .exit) ≡ unless (sendRefusal (now (block .entry))) (scrambled «lfsr_init» (now (block .entry))) (now (block .entry))) ⌝ }
+{
+    let n = block.len();
+    if base::inner::bits_only(block, n) {
+        tetra_descramb_bits(lfsr_init, block);
+        base::Outcome::Done
+    } else {
+        base::Outcome::Refused(4)
+    }
+}
+
+// The start value of a cell's country code, network code and colour code; FIELD where one does not fit its field.
+pub fn tetra_scramb_get_init(mcc: u16, mnc: u16, colour: u8) -> Start
+    ensures { λ r. ⌜ r ≡ startAnswer mcc mnc colour ⌝ }
+{
+    if 1023 < mcc {
+        return Start::Refused(7);
+    }
+    if 16383 < mnc {
+        return Start::Refused(7);
+    }
+    if 63 < colour {
+        return Start::Refused(7);
+    }
+    if colour == 0 {
+        return Start::Value(0);
+    }
+    Start::Value(4 * (colour as u32 + 64 * mnc as u32 + 0x10_0000 * mcc as u32) + SCRAMB_INIT)
+}

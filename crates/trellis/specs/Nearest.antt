@@ -2,7 +2,7 @@
 -- Words and received symbols are in the order of the air, the first first.
 -- Assumes nothing.
 use mathlib.Core.List.{List, [], _∷_, _++_, map, reverse}
-use mathlib.Core.Bool.{Bool, true, false}
+use mathlib.Core.Bool.{cond}
 use mathlib.Core.Logic.{_⊎_}
 use mathlib.Core.Path.{_≡_}
 use Prim.Native.Nat.{ℕ, zero, suc, _+_, _*_, _/_, _-_, _<_, min}
@@ -26,6 +26,11 @@ distance m [] ys = 0
 distance m (r ∷ rs) [] = 0
 distance m (r ∷ rs) (y ∷ ys) = m r y + distance m rs ys
 
+-- the sum of a number of each symbol
+abbrev pub total : {A : Type 0} → (A → ℕ) → List A → ℕ
+total f [] = 0
+total f (r ∷ rs) = f r + total f rs
+
 -- all words of n bits, written from the last bit to the first, in the order of the tie rule: 0 before 1 at the first difference
 abbrev pub backwards : ℕ → List (List ℕ)
 backwards zero = [] ∷ []
@@ -35,14 +40,10 @@ backwards (suc n) = map (λ (w : List ℕ). 0 ∷ w) (backwards n) ++ map (λ (w
 unfoldable pub candidates : ℕ → List (List ℕ)
 candidates n = map (λ (w : List ℕ). reverse (replicate (min 4 n) 0 ++ w)) (backwards (n - 4))
 
-abbrev pick : Bool → List ℕ → List ℕ → List ℕ
-pick true a b = a
-pick false a b = b
-
 -- the first of w and the list that no other is nearer than
 abbrev pub firstLeast : (List ℕ → ℕ) → List ℕ → List (List ℕ) → List ℕ
 firstLeast far w [] = w
-firstLeast far w (v ∷ vs) = firstLeast far (pick (ltb (far v) (far w)) v w) vs
+firstLeast far w (v ∷ vs) = firstLeast far (cond (ltb (far v) (far w)) v w) vs
 
 -- of all candidates the nearest; between equals the one with 0 at the first difference counted from the last bit
 unfoldable pub nearest : (List ℕ → ℕ) → ℕ → List ℕ

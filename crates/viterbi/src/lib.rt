@@ -1,1 +1,49 @@
-// viterbi
+// The Viterbi decoders of the control and the speech code. Ported from lmac/components/viterbi.rs; changed: one routine over
+// tables of expected bits for both codes, trellis and target lent by the caller, refusal numbers instead of asserts, and the
+// disagreements counted. A caller gets the nearest word and how many unerased symbols disagree with it.
+ghost use lib.ListN.{length};
+ghost use Rattle.convenc.specs.Generators.{control, speech};
+ghost use Rattle.viterbi.specs.Decoding.{Decodes};
+
+// The disagreements of the word that was written, or why nothing was.
+pub enum Decoded {
+    Word(usize),
+    Refused(u8),
+}
+
+mod inner;
+
+// Rows of expected bits, -1 for 0 and 1 for 1, at each state when the bit before the state's four was 0 (EN 300 392-2, 8.2.3.1.1).
+const CONTROL: [[i8; 16]; 4] = [
+    [-1, -1, -1, -1, 1, 1, 1, 1, 1, 1, 1, 1, -1, -1, -1, -1],
+    [-1, 1, 1, -1, -1, 1, 1, -1, 1, -1, -1, 1, 1, -1, -1, 1],
+    [-1, -1, 1, 1, 1, 1, -1, -1, 1, 1, -1, -1, -1, -1, 1, 1],
+    [-1, 1, -1, 1, 1, -1, 1, -1, 1, -1, 1, -1, -1, 1, -1, 1],
+];
+
+// The same for the three generators of EN 300 395-2, 5.4.3.1, with a row of zeros.
+const SPEECH: [[i8; 16]; 4] = [
+    [-1, 1, 1, -1, 1, -1, -1, 1, 1, -1, -1, 1, -1, 1, 1, -1],
+    [-1, 1, -1, 1, 1, -1, 1, -1, 1, -1, 1, -1, -1, 1, -1, 1],
+    [-1, -1, 1, 1, -1, -1, 1, 1, 1, 1, -1, -1, 1, 1, -1, -1],
+    [0, 0, 0, 0, 0, 0, 0, 0, 0, 0, 0, 0, 0, 0, 0, 0],
+];
+
+// Decodes sym_count steps of four control symbols each: 0 and 1 are bits, every other byte is an erasure.
+pub fn dec_sb1(in_buf: &[u8], out_buf: &mut [u8], sym_count: usize, trellis: &mut [u16]) -> Decoded
+    ensures { λ r. ⌜ Decodes control «sym_count» (now («in_buf» .entry)) (now («out_buf» .entry)) (now («out_buf» .exit)) (now (trellis .entry)) (now (trellis .exit)) r ⌝ }
+{
+    inner::decode(CONTROL, 4, in_buf, out_buf, sym_count, trellis)
+}
+
+// The same for steps of three speech symbols.
+pub fn dec_speech(
+    in_buf: &[u8],
+    out_buf: &mut [u8],
+    sym_count: usize,
+    trellis: &mut [u16],
+) -> Decoded
+    ensures { λ r. ⌜ Decodes speech «sym_count» (now («in_buf» .entry)) (now («out_buf» .entry)) (now («out_buf» .exit)) (now (trellis .entry)) (now (trellis .exit)) r ⌝ }
+{
+    inner::decode(SPEECH, 3, in_buf, out_buf, sym_count, trellis)
+}

@@ -1,0 +1,4 @@
+pub mod Sums
+pub mod Symbols
+pub mod Passing
+pub mod Steady

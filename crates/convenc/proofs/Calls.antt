@@ -1,0 +1,43 @@
+-- What a caller of an encoder uses: when it accepts, what it then leaves, and that two calls in a row are one over the joined input.
+-- Assumes nothing.
+use mathlib.Core.Path.{_≡_, refl, sym, ap, _∙_}
+use mathlib.Core.List.{List, [], _∷_, _++_}
+use Prim.Native.Nat.{ℕ, _*_, _≤_}
+use native.Mathlib.Omega.{arith}
+use lib.ListN.{length}
+use Rattle.base.specs.declared.Outcome.{Outcome}
+use Rattle.base.specs.declared.Outcome.the-variants.{Done}
+use Rattle.base.specs.Refusal.{accepted}
+use Rattle.base.specs.Bits.{Bits}
+use Rattle.base.specs.Places.{written}
+use Rattle.base.proofs.BitLaws.{bits-only-yes}
+use Rattle.trellis.specs.Nearest.{encode}
+use Rattle.convenc.specs.Generators.{outputs, held, delays, encodeRefusal, Encoded}
+use Rattle.convenc.specs.Puncturing.{needed, punctureRefusal, depunctureRefusal}
+use Rattle.convenc.proofs.Delays.{Four, held-after}
+use Rattle.convenc.proofs.Encoding.{encode-append}
+use Rattle.convenc.proofs.Refusing.{refuses-none, moving-none}
+
+-- bits, few enough and with room for their outputs, are accepted
+pub encode-accepts : (rate : ℕ) (d src : List ℕ) (dst : ℕ) → length src ≤ 4096 → rate * length src ≤ dst → Bits src → Bits d → encodeRefusal rate d src dst ≡ accepted
+encode-accepts rate d [] dst limit room input delayed = refl
+encode-accepts rate d (b ∷ src) dst limit room input delayed =
+    sym (refuses-none rate d (b ∷ src) dst (λ e. omega arith) limit room (bits-only-yes (length (b ∷ src)) (b ∷ src) input) (bits-only-yes 4 d delayed))
+
+pub puncture-accepts : (mode n src dst : ℕ) → mode ≤ 6 → n ≤ 4096 → needed mode n ≤ src → n ≤ dst → punctureRefusal mode n src dst ≡ accepted
+puncture-accepts mode n src dst kind limit source target = sym (moving-none mode n src dst (needed mode n) n kind limit source target)
+
+pub depuncture-accepts : (mode n src dst : ℕ) → mode ≤ 6 → n ≤ 4096 → n ≤ src → needed mode n ≤ dst → depunctureRefusal mode n src dst ≡ accepted
+depuncture-accepts mode n src dst kind limit source target = sym (moving-none mode n src dst n (needed mode n) kind limit source target)
+
+-- what an encoder that accepts leaves
+pub encodes : (code : List (List ℕ)) (d src dst : List ℕ) (answer : Outcome) (d′ dst′ : List ℕ) → Encoded code d src dst answer d′ dst′
+    → encodeRefusal (length code) d src (length dst) ≡ accepted
+    → (answer ≡ Done) × (d′ ≡ delays d src) × (dst′ ≡ written (encode (outputs code) (held d) src) dst)
+encodes code d src dst answer d′ dst′ e a = (rw a at (e .answered), rw a at (e .state), rw a at (e .target))
+
+-- a call that goes on from where another left off
+pub two-calls : (code : List (List ℕ)) (d v w : List ℕ) → Four d → Bits v
+    → encode (outputs code) (held d) v ++ encode (outputs code) (held (delays d v)) w ≡ encode (outputs code) (held d) (v ++ w)
+two-calls code d v w f b =
+    ap (λ (s : ℕ). encode (outputs code) (held d) v ++ encode (outputs code) s w) (held-after d v f b) ∙ sym (encode-append (outputs code) (held d) v w)

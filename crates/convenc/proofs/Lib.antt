@@ -1,0 +1,12 @@
+pub mod Encoding
+pub mod Delays
+pub mod Taps
+pub mod Refusing
+pub mod Running
+pub mod Calls
+pub mod Modes
+pub mod Walking
+pub mod Steps
+pub mod Undone
+pub mod Bench
+pub mod Matching

@@ -1,0 +1,41 @@
+-- How the code goes through a mode's positions. No promise to a caller needs this file.
+-- Assumes nothing.
+use mathlib.Core.Path.{_≡_}
+use mathlib.Core.List.{List, [], _∷_}
+use Prim.Native.Nat.{ℕ, _+_, _*_, _/_, _%_, _≤_, _<_}
+use lib.ListN.{getD}
+use Rattle.convenc.specs.declared.Puncturer.{Puncturer}
+use Rattle.convenc.specs.declared.Kept.{Kept}
+use Rattle.convenc.specs.Puncturing.{outputsKept, periods}
+
+-- where each mode's positions begin in the list of all
+abbrev pub starts : List ℕ
+starts = 0 ∷ 3 ∷ 9 ∷ 12 ∷ 18 ∷ 21 ∷ 30 ∷ []
+
+-- after how many outputs a mode passes one position over; 4096 stands for never, since no more outputs are made
+abbrev pub runs : List ℕ
+runs = 4096 ∷ 4096 ∷ 65 ∷ 35 ∷ 4096 ∷ 4096 ∷ 4096 ∷ []
+
+pub record Sound (p : Puncturer) : Type 0 where
+  pub t-least : 2 ≤ p .t
+  pub t-most : p .t ≤ 17
+  pub period-most : p .period ≤ 24
+  pub run-least : 1 ≤ p .run
+  pub run-most : p .run ≤ 4096
+
+pub record Parameters (mode : ℕ) (p : Puncturer) : Type 0 where
+  pub start : p .start ≡ getD starts mode 0
+  pub t : p .t ≡ getD outputsKept mode 1
+  pub period : p .period ≡ getD periods mode 0
+  pub run : p .run ≡ getD runs mode 0
+  pub sound : Sound p
+
+-- x entries of P are behind
+pub record Lies (p : Puncturer) (x : ℕ) (at : Kept) : Type 0 where
+  pub base : at .base ≡ p .period * (x / p .t)
+  pub index : at .index ≡ x % p .t
+
+-- output j, from 0, is next: j outputs and the positions passed over are behind
+pub record Stands (p : Puncturer) (j : ℕ) (at : Kept) : Type 0 where
+  pub lies : Lies p (j + j / p .run) at
+  pub skip : at .skip ≡ p .run * (j / p .run + 1)

@@ -1,0 +1,7 @@
+pub mod Mother
+pub mod Air
+pub mod Demand
+pub mod RoundTrip
+pub mod Parts
+pub mod Chains
+pub mod Answers

@@ -1,0 +1,31 @@
+-- A whole target: what is written is all it holds.
+use lib.ListN.{length, replicate}
+use Rattle.base.proofs.Moves.{gather-length}
+use Rattle.tch_reorder.specs.Order.{channelOf, codecPlace}
+use Rattle.errorcontrol_tp.proofs.Parts.{whole, reorder-free}
+use native.Mathlib.Omega.{arith}
+use borrow.Author.Needs.{needs}
+use Rattle.errorcontrol_tp.proofs.channel_bits.Statement.{statement}
+use Rattle.errorcontrol_tp.proofs.channel_bits.Tie as tie
+use Rattle.errorcontrol_tp.proofs.channel_bits.Reads as reads
+use Rattle.errorcontrol_tp.proofs.channel_bits.Lts as lts
+use Rattle.tch_reorder.proofs.codec_to_channel.Reads as codec-to-channel-reads
+
+-- src/lib.rt:55:42
+slice-aggregate-codec-to-channel : tie.Need-slice-aggregate-codec-to-channel
+slice-aggregate-codec-to-channel c = search needs
+
+-- src/lib.rt:55:5
+codec-to-channel-requires : tie.Need-codec-to-channel-requires
+codec-to-channel-requires c κs = search needs
+
+-- src/lib.rt:50:1
+returns : tie.Need-returns
+returns c =
+    let codec = c .before .before .before .before .args .codec .now in
+    whole _ (channelOf codec) (replicate 274 0) (c .before .codec-to-channel .last .1 .0)
+    (reorder-free (length codec) 274 (omega arith) (omega arith)) (gather-length codecPlace 274 codec) (c .before .codec-to-channel .ensures .1)
+
+pub channel-bits-spec : {M : Type 1} → statement M
+channel-bits-spec =
+    tie.close (tie.spec slice-aggregate-codec-to-channel codec-to-channel-requires returns)

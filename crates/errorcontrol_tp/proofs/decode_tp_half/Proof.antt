@@ -1,0 +1,111 @@
+-- A refusal by its number; otherwise the second half is received behind erasures.
+use mathlib.Core.Path.{_≡_, sym, ap, _∙_, subst}
+use mathlib.Core.List.{List}
+use Prim.Native.Nat.{ℕ}
+use lib.ListN.{length, replicate}
+use Rattle.errorcontrol_tp.specs.Speech.{supplied, isGood, countsOf, codecBits}
+use Rattle.base.specs.Refusal.{checked}
+use Rattle.base.specs.Places.{written}
+use Rattle.errorcontrol_tp.proofs.Answers.{receive-refused, receive-done}
+use Rattle.errorcontrol_tp.proofs.Chains.{receive-accepted, half-made, half-long}
+use native.Mathlib.Omega.{arith}
+use borrow.Author.Needs.{needs}
+use Rattle.errorcontrol_tp.proofs.decode_tp_half.Statement.{statement}
+use Rattle.errorcontrol_tp.proofs.decode_tp_half.Tie as tie
+use Rattle.errorcontrol_tp.proofs.decode_tp_half.Reads as reads
+use Rattle.errorcontrol_tp.proofs.decode_tp_half.Lts as lts
+use Rattle.base.proofs.inner.copy.Reads as copy-reads
+use Rattle.errorcontrol_tp.proofs.receive.Reads as receive-reads
+use Rattle.errorcontrol_tp.proofs.receive_refusal.Reads as receive-refusal-reads
+
+-- src/lib.rt:277:9
+receive-refusal-requires : tie.Need-receive-refusal-requires
+receive-refusal-requires c κs = search needs
+
+-- src/lib.rt:279:9
+returns : tie.Need-returns
+returns c =
+    let a = c .before .before .before .before .before .args in
+    receive-refused 216 (a .start) (a .air .now) (supplied (a .air .now)) (a .codec .now) (a .trellis .now) (c .before .receive-refusal .result) (c .before .receive-refusal .ensures) (c .if1 .taken)
+
+-- src/lib.rt:282:10
+sub-copy : tie.Need-sub-copy
+sub-copy c = search needs
+
+-- src/lib.rt:282:10
+part-copy-start : tie.Need-part-copy-start
+part-copy-start c = search needs
+
+-- src/lib.rt:282:10
+part-copy-end : tie.Need-part-copy-end
+part-copy-end c =
+    let a = c .before .before .before .before .before .args in
+    receive-accepted 216 (length (a .air .now)) (length (a .codec .now)) (length (a .trellis .now)) (sym (c .before .receive-refusal .ensures) ∙ c .if1 .left) .long
+
+-- src/lib.rt:282:24
+sub-copy-2 : tie.Need-sub-copy-2
+sub-copy-2 c = search needs
+
+-- src/lib.rt:282:24
+part-symbols-start : tie.Need-part-symbols-start
+part-symbols-start c = search needs
+
+-- src/lib.rt:282:24
+part-symbols-end : tie.Need-part-symbols-end
+part-symbols-end c = search needs
+
+-- src/lib.rt:282:5
+copy-requires : tie.Need-copy-requires
+copy-requires c κs = search needs
+
+-- src/lib.rt:283:20
+slice-aggregate-receive : tie.Need-slice-aggregate-receive
+slice-aggregate-receive c =
+    let a = c .before .before .before .before .before .before .before .before .before .before .args in
+    let ok = receive-accepted 216 (length (a .air .now)) (length (a .codec .now)) (length (a .trellis .now)) (sym (c .before .before .before .before .before .before .receive-refusal .ensures) ∙ c .before .before .before .before .before .if1 .left) in
+    sym (ap length (half-made (a .air .now) (c .before .before .copy .last .1 .0) (ok .long) (c .before .before .copy .ensures)) ∙ half-long (a .air .now) (ok .long))
+
+-- src/lib.rt:283:5
+receive-requires : tie.Need-receive-requires
+receive-requires c κs =
+    let a = c .before .before .before .before .before .before .before .before .before .before .before .before .args in
+    let ok = receive-accepted 216 (length (a .air .now)) (length (a .codec .now)) (length (a .trellis .now)) (sym (c .before .before .before .before .before .before .before .before .receive-refusal .ensures) ∙ c .before .before .before .before .before .before .before .if1 .left) in
+    (ap length (half-made (a .air .now) (c .before .before .before .before .copy .last .1 .0) (ok .long) (c .before .before .before .before .copy .ensures)) ∙ half-long (a .air .now) (ok .long), ok .room, ok .steps)
+
+-- src/lib.rt:274:1
+same-length : tie.Need-same-length
+same-length c = search needs
+
+-- src/lib.rt:274:1
+same-length-2 : tie.Need-same-length-2
+same-length-2 c = search needs
+
+-- src/lib.rt:274:1
+returns-2 : tie.Need-returns-2
+returns-2 c =
+    let a = c .before .before .before .before .before .before .before .before .before .before .before .before .before .before .before .before .before .args in
+    let ok = receive-accepted 216 (length (a .air .now)) (length (a .codec .now)) (length (a .trellis .now)) (sym (c .before .before .before .before .before .before .before .before .before .before .before .before .before .receive-refusal .ensures) ∙ c .before .before .before .before .before .before .before .before .before .before .before .before .if1 .left) in
+    let r = c .before .before .before .before .receive in
+    receive-done 216 (a .start) (a .air .now) (supplied (a .air .now)) (a .codec .now) (a .trellis .now) (c .before .before .before .before .before .before .before .before .before .before .before .before .before .receive-refusal .result) (c .before .before .before .before .before .before .before .before .before .before .before .before .before .receive-refusal .ensures) (c .before .before .before .before .before .before .before .before .before .before .before .before .if1 .left)
+    (r .result) (r .last .1 .1 .0) (r .last .1 .1 .1 .0)
+    (subst (λ (l : List ℕ). (r .result ≡ checked (isGood (a .start) l) (countsOf (a .start) l)) × (r .last .1 .1 .0 ≡ written (codecBits (a .start) l) (a .codec .now)) × (r .last .1 .1 .1 .0 ≡ written (replicate 184 0) (a .trellis .now)))
+    (half-made (a .air .now) (c .before .before .before .before .before .before .before .before .before .copy .last .1 .0) (ok .long) (c .before .before .before .before .before .before .before .before .before .copy .ensures)) (r .ensures))
+
+pub decode-tp-half-spec : {M : Type 1} → statement M
+decode-tp-half-spec =
+    tie.close
+    (tie.spec
+    receive-refusal-requires
+    returns
+    sub-copy
+    part-copy-start
+    part-copy-end
+    sub-copy-2
+    part-symbols-start
+    part-symbols-end
+    copy-requires
+    slice-aggregate-receive
+    receive-requires
+    same-length
+    same-length-2
+    returns-2)

@@ -1,0 +1,19 @@
+-- Each answer by the test that led to it.
+use Rattle.errorcontrol_tp.proofs.Parts.{read-one, read-other}
+use native.Mathlib.Omega.{arith}
+use borrow.Author.Needs.{needs}
+use Rattle.errorcontrol_tp.proofs.read_bit.Statement.{statement}
+use Rattle.errorcontrol_tp.proofs.read_bit.Tie as tie
+use Rattle.errorcontrol_tp.proofs.read_bit.Reads as reads
+use Rattle.errorcontrol_tp.proofs.read_bit.Lts as lts
+
+-- src/lib.rt:96:1
+returns : tie.Need-returns
+returns c = read-one (c .before .args .symbol) (c .if1 .taken)
+
+-- src/lib.rt:96:1
+returns-2 : tie.Need-returns-2
+returns-2 c = read-other (c .before .args .symbol) (c .if1 .left)
+
+pub read-bit-spec : {M : Type 1} → statement M
+read-bit-spec = tie.close (tie.spec returns returns-2)

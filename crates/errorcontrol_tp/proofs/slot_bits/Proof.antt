@@ -1,0 +1,65 @@
+-- The stages of sending, one after the other.
+use mathlib.Core.Path.{sym, subst}
+use mathlib.Core.List.{List}
+use Prim.Native.Nat.{ℕ}
+use Rattle.base.specs.Bits.{Bits}
+use Rattle.errorcontrol_tp.proofs.RoundTrip.{channel-plain, block-plain}
+use Rattle.errorcontrol_tp.proofs.Chains.{kept, class2-plain, block-is, slot-is}
+use native.Mathlib.Omega.{arith}
+use borrow.Author.Needs.{needs}
+use Rattle.errorcontrol_tp.proofs.slot_bits.Statement.{statement}
+use Rattle.errorcontrol_tp.proofs.slot_bits.Tie as tie
+use Rattle.errorcontrol_tp.proofs.slot_bits.Reads as reads
+use Rattle.errorcontrol_tp.proofs.slot_bits.Lts as lts
+use Rattle.errorcontrol_tp.proofs.air_bits.Reads as air-bits-reads
+use Rattle.errorcontrol_tp.proofs.block_bits.Reads as block-bits-reads
+use Rattle.errorcontrol_tp.proofs.channel_bits.Reads as channel-bits-reads
+use Rattle.errorcontrol_tp.proofs.class2_bits.Reads as class2-bits-reads
+use Rattle.errorcontrol_tp.proofs.mother_bits.Reads as mother-bits-reads
+
+-- src/lib.rt:229:9
+channel-bits-requires : tie.Need-channel-bits-requires
+channel-bits-requires c κs = search needs
+
+-- src/lib.rt:230:39
+class2-bits-requires : tie.Need-class2-bits-requires
+class2-bits-requires c κs = search needs
+
+-- src/lib.rt:230:9
+mother-bits-requires : tie.Need-mother-bits-requires
+mother-bits-requires c κs =
+    let a = c .before .before .before in
+    let plain = subst (λ (l : List ℕ). Bits l) (sym (c .before .channel-bits .ensures)) (channel-plain kept 0 (a .args .codec .now) (a .pre .0) (a .pre .1)) in
+    (plain, class2-plain (c .before .channel-bits .result) (c .class2-bits .result) plain (c .class2-bits .ensures))
+
+-- src/lib.rt:231:21
+block-bits-requires : tie.Need-block-bits-requires
+block-bits-requires c κs = search needs
+
+-- src/lib.rt:231:5
+air-bits-requires : tie.Need-air-bits-requires
+air-bits-requires c κs =
+    let a = c .before .before .before .before .before in
+    let channel = c .before .before .before .channel-bits in
+    let plain = subst (λ (l : List ℕ). Bits l) (sym (channel .ensures)) (channel-plain kept 0 (a .args .codec .now) (a .pre .0) (a .pre .1)) in
+    subst (λ (l : List ℕ). Bits l)
+    (sym (block-is (channel .result) (c .before .before .class2-bits .result) (c .before .mother-bits .result) (c .block-bits .result) (c .before .before .class2-bits .ensures) (c .before .mother-bits .ensures) (c .block-bits .ensures)))
+    (block-plain (channel .result) (search needs) plain)
+
+-- src/lib.rt:225:1
+returns : tie.Need-returns
+returns c =
+    let a = c .before .before .before .before .before .before .args in
+    slot-is (a .start) (a .codec .now) (c .before .before .before .before .channel-bits .result) (c .before .before .before .class2-bits .result) (c .before .before .mother-bits .result) (c .before .block-bits .result) (c .air-bits .result)
+    (c .before .before .before .before .channel-bits .ensures) (c .before .before .before .class2-bits .ensures) (c .before .before .mother-bits .ensures) (c .before .block-bits .ensures) (c .air-bits .ensures)
+
+pub slot-bits-spec : {M : Type 1} → statement M
+slot-bits-spec =
+    tie.close
+    (tie.spec
+    channel-bits-requires
+    class2-bits-requires
+    mother-bits-requires
+    block-bits-requires
+    air-bits-requires
+    returns)

@@ -1,0 +1,7 @@
+pub mod Fronts
+pub mod Divisors
+pub mod Inverse
+pub mod Walk
+pub mod Block
+pub mod Matrix
+pub mod Cases

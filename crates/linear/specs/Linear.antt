@@ -1,0 +1,44 @@
+-- Linear maps over GF(2) on numbers. A map is the list of its columns, in the order of the word's bits, the most significant first.
+-- Places of a word are counted from 1, from the left.
+-- Assumes nothing.
+use mathlib.Core.List.{List, [], _∷_}
+use mathlib.Core.Bool.{cond}
+use mathlib.Core.Path.{_≡_}
+use Prim.Native.Nat.{ℕ, zero, suc, _+_, _-_, _*_, _/_, _%_, _^_, _≤_, _<_}
+use lib.Bits.{bitXor}
+use lib.Dec.{eqb}
+use lib.ListN.{length, getD}
+
+-- the column where the bit is set, and 0 where it is not
+abbrev pub chosen : ℕ → ℕ → ℕ
+chosen zero column = 0
+chosen (suc b) column = column
+
+-- the sum, bit by bit mod 2, of the columns at the set bits of the word
+abbrev pub image : List ℕ → ℕ → ℕ
+image [] word = 0
+image (c ∷ cs) word = bitXor (chosen (word / 2 ^ length cs % 2) c) (image cs word)
+
+-- the map that leaves a word of n bits as it is
+abbrev pub units : ℕ → List ℕ
+units zero = []
+units (suc n) = 2 ^ n ∷ units n
+
+-- the sum of the products of two lists' entries, place by place
+abbrev pub dot : List ℕ → List ℕ → ℕ
+dot [] ys = 0
+dot (x ∷ xs) [] = 0
+dot (x ∷ xs) (y ∷ ys) = x * y + dot xs ys
+
+-- the word of n bits with the bit at the place turned
+abbrev pub turned : ℕ → ℕ → ℕ → ℕ
+turned n place word = bitXor word (2 ^ (n - place))
+
+-- the first place, counted on from k, at which s stands in the list; 0 where it stands nowhere
+abbrev pub placeFrom : ℕ → ℕ → List ℕ → ℕ
+placeFrom k s [] = 0
+placeFrom k s (c ∷ cs) = cond (eqb c s) k (placeFrom (k + 1) s cs)
+
+-- no two columns add up to 0 or to a column, so that one wrong bit is told from none and from two
+abbrev pub Separate : List ℕ → Type 0
+Separate cs = (i j k : ℕ) → j < i → i < length cs → k ≤ length cs → bitXor (getD cs i 0) (getD cs j 0) ≡ getD (0 ∷ cs) k 0 → ⊥

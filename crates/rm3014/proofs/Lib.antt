@@ -1,0 +1,5 @@
+pub mod CodeLaws
+pub mod Answers
+pub mod VerdictLaws
+pub mod OriginalLaws
+pub mod Examples

@@ -1,0 +1,57 @@
+-- The verdict on a received word, and what each entry answers.
+-- Assumes nothing.
+use Prim.Native.Nat.{ℕ, zero, suc, _^_}
+use lib.Dec.{leb}
+use Rattle.base.specs.Refusal.{WORD, accepted, when}
+use Rattle.linear.specs.Linear.{turned}
+use Rattle.rm3014.specs.Code.{dataOf, syndrome, placeOf}
+use Rattle.rm3014.specs.declared.Verdict.{Verdict}
+use Rattle.rm3014.specs.declared.Verdict.the-variants.{Clean, Mended, Beyond}
+use Rattle.rm3014.specs.declared.Coded.{Coded}
+use Rattle.rm3014.specs.declared.Coded.the-variants as code
+use Rattle.rm3014.specs.declared.Reading.{Reading}
+use Rattle.rm3014.specs.declared.Reading.the-variants as read
+use Rattle.rm3014.specs.declared.Judged.{Judged}
+use Rattle.rm3014.specs.declared.Judged.the-variants as judge
+
+-- Mended at the place, with that bit turned; Beyond where there is no place
+abbrev pub byPlace : ℕ → ℕ → Verdict
+byPlace zero word = Beyond (dataOf word)
+byPlace (suc p) word = Mended (suc p) (dataOf (turned 30 (suc p) word))
+
+-- Clean where the syndrome is 0, and otherwise by the place whose column the syndrome is
+abbrev pub bySyndrome : ℕ → ℕ → Verdict
+bySyndrome zero word = Clean (dataOf word)
+bySyndrome (suc s) word = byPlace (placeOf (suc s)) word
+
+-- the verdict on a word
+abbrev pub verdict : ℕ → Verdict
+verdict word = bySyndrome (syndrome word) word
+
+-- the 14 bits that a verdict carries
+abbrev pub bitsIn : Verdict → ℕ
+bitsIn (Clean bits) = bits
+bitsIn (Mended place bits) = bits
+bitsIn (Beyond bits) = bits
+
+-- ---- refusals
+-- data of 16,384 or more
+abbrev pub inputRefusal : ℕ → ℕ
+inputRefusal input = when (leb (2 ^ 14) input) WORD accepted
+
+-- a word of 2 ^ 30 or more
+abbrev pub wordRefusal : ℕ → ℕ
+wordRefusal word = when (leb (2 ^ 30) word) WORD accepted
+
+-- ---- answers: the value where nothing is refused, and otherwise the number of the refusal
+abbrev pub coded : ℕ → ℕ → Coded
+coded zero word = code.Word word
+coded (suc number) word = code.Refused (suc number)
+
+abbrev pub reading : ℕ → ℕ → Reading
+reading zero bits = read.Bits bits
+reading (suc number) bits = read.Refused (suc number)
+
+abbrev pub judged : ℕ → Verdict → Judged
+judged zero v = judge.Is v
+judged (suc number) v = judge.Refused (suc number)

@@ -1,0 +1,4 @@
+pub mod Outputs
+pub mod Eight
+pub mod Blocks
+pub mod Starts

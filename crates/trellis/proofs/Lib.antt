@@ -1,0 +1,10 @@
+pub mod Words
+pub mod Order
+pub mod Candidates
+pub mod Encoding
+pub mod Winners
+pub mod Undamaged
+pub mod Paths
+pub mod Start
+pub mod Spread
+pub mod Decoder

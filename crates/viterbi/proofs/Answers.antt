@@ -1,0 +1,149 @@
+-- The parts put together: the word, its count, and what is left in target and trellis.
+-- Assumes nothing.
+use mathlib.Core.Path.{_≡_, refl, sym, ap, ap₂, _∙_, subst}
+use mathlib.Core.List.{List, [], _∷_, _++_, reverse}
+use Prim.Native.Nat.{ℕ, zero, suc, _+_, _*_, _/_, _%_, _^_, _-_, _≤_, _<_}
+use native.Mathlib.Omega.{arith}
+use lib.IntN.{ℤ, pos, negsuc}
+use lib.Signed.{mag}
+use lib.ListN.{length, getD, take, drop, replicate, length-drop, length-take}
+use lib.Seq.{ext-getD, getD-drop}
+use mir.Syntax.{w16}
+use mir.Val.{toZ, ofZ}
+use Rattle.base.specs.Refusal.{unless}
+use Rattle.base.specs.Bits.{Bits, disagrees, known}
+use Rattle.base.specs.Places.{written}
+use Rattle.base.proofs.BitLaws.{known-le}
+use Rattle.base.proofs.Lists.{tabulate-length}
+use Rattle.trellis.specs.Nearest.{encode, distance, total, nearest, Candidate}
+use Rattle.trellis.specs.Trellis.{before, metric, choice, trace, begin, branch, steps, decode}
+use Rattle.trellis.proofs.Start.{starts-at-zero}
+use Rattle.trellis.proofs.Encoding.{Each, distance-most, distance-take, encode-length, encode-same}
+use Rattle.trellis.proofs.Winners.{nearest-same, nearest-wins, nearest-length}
+use Rattle.trellis.proofs.Decoder.{steps-bounded, decode-nearest, decode-distance}
+use Rattle.convenc.specs.Generators.{outputs}
+use Rattle.viterbi.specs.declared.Decoded.{Decoded}
+use Rattle.viterbi.specs.declared.Decoded.the-variants.{Word, Refused}
+use Rattle.viterbi.specs.Decoding.{disagreements, decoded, decodeRefusal, answer, cleared, Decodes}
+use Rattle.viterbi.specs.Scores.{down, Stands, bitOf, signAt, Table, told, Tells, handicap, received, Forward, walk, walkEnd, Back}
+use Rattle.viterbi.proofs.Signed.{reads}
+use Rattle.viterbi.proofs.Windows.{told-bits}
+use Rattle.viterbi.proofs.Counts.{total-le, each-known}
+use Rattle.viterbi.proofs.Codes.{outputs-length}
+use Rattle.viterbi.proofs.Pass.{scores-small, knowns-le}
+use Rattle.viterbi.proofs.Refusals.{none}
+
+-- ---- an answer with no refusal, and with one
+pub answered : (code : List (List ℕ)) (n : ℕ) (src target target′ trellis trellis′ : List ℕ) (count : ℕ)
+    → 0 ≡ decodeRefusal code n (length src) (length trellis) (length target)
+    → count ≡ disagreements code n src (decoded code n src) → target′ ≡ written (decoded code n src) target → trellis′ ≡ cleared n trellis
+    → Decodes code n src target target′ trellis trellis′ (Word count)
+answered code n src target target′ trellis trellis′ count z c t r =
+    record { answers = rw (← z) (ap Word c); writes = rw (← z) t; clears = rw (← z) r }
+
+pub refused : (code : List (List ℕ)) (n : ℕ) (src target trellis : List ℕ) (number : ℕ)
+    → 0 < number → number ≡ decodeRefusal code n (length src) (length trellis) (length target)
+    → Decodes code n src target target trellis trellis (Refused number)
+refused code n src target trellis zero h e = absurd (omega arith)
+refused code n src target trellis (suc number) h e = record { answers = rw (← e); writes = rw (← e); clears = rw (← e) }
+
+-- ---- the walk over the choices is the trellis's own
+module _ (k : ℕ) (t : List (List ℤ)) (src trellis : List ℕ) where
+  abbrev Chosen : ℕ → Type 0
+  Chosen n = (i s : ℕ) → i < n → s < 16 → getD trellis i 0 / 2 ^ s % 2 ≡ choice handicap (branch disagrees (told k t) k src i) (received k t src i) s
+
+  walk-is : (n s : ℕ) → s < 16 → Chosen n → walk trellis n s ≡ trace handicap (received k t src n) s
+  walk-is zero s h d = refl
+  walk-is (suc n) s h d =
+      ap (λ (l : List ℕ). s / 8 ∷ l)
+      (walk-is n (before (getD trellis n 0 / 2 ^ s % 2) s) (omega arith) (λ i x p q. d i x (omega arith) q)
+      ∙ ap (λ (y : ℕ). trace handicap (received k t src n) (before y s)) (d n s (omega arith) h))
+
+  end-is : (n s : ℕ) → s < 16 → Chosen n → walkEnd trellis n s ≡ begin handicap (received k t src n) s
+  end-is zero s h d = refl
+  end-is (suc n) s h d =
+      end-is n (before (getD trellis n 0 / 2 ^ s % 2) s) (omega arith) (λ i x p q. d i x (omega arith) q)
+      ∙ ap (λ (y : ℕ). begin handicap (received k t src n) (before y s)) (d n s (omega arith) h)
+
+-- ---- the walk ends in state 0
+others : (s : ℕ) → 0 < s → 4 * 4 < handicap s
+others zero h = absurd (omega arith)
+others (suc s) h = omega arith
+
+plain : (r : List ℕ) → Each (λ (a : ℕ). Unit {0}) r
+plain [] = tt
+plain (a ∷ r) = (tt, plain r)
+
+module _ (k : ℕ) (t : List (List ℤ)) (table : Table k t) (src : List ℕ) (n : ℕ) where
+  starts : begin handicap (received k t src n) 0 ≡ 0
+  starts =
+      starts-at-zero handicap 4 (received k t src n) refl others
+      (steps-bounded disagrees (told k t) k 4 (λ (a : ℕ). Unit {0})
+      (λ l h e x b. omega (arith, distance-most disagrees known l (told k t x) (each-known l) (told-bits k t table x b), total-le known l known-le, table .most))
+      src (plain src) n)
+
+  -- what was passed over, and the walk back over its choices
+  module _ (hn : n ≤ 864) (room : k * n ≤ length src) (m : List ℤ) (was now now′ target target′ : List ℕ) (end : ℕ)
+      (f : Forward k t src n m was now) (b : Back n end now now′ target target′) where
+    pub never : 0 < end → ⊥
+    never h = omega (arith, b .ends, end-is k t src now n 0 (omega arith) (f .choices), starts)
+
+    -- ---- what the count asks
+    small : mag (getD m 0 (pos 0)) < 20000
+    small = scores-small k t table src n m was now hn room f 0 (omega arith)
+
+    read : toZ w16 (ofZ w16 (getD m 0 (pos 0))) ≡ getD m 0 (pos 0)
+    read = reads (getD m 0 (pos 0)) 20000 small (omega arith)
+
+    down-le : (z : ℤ) (x y : ℕ) → Stands z x y → down z ≤ y
+    down-le (pos a) x y h = omega arith
+    down-le (negsuc a) x y h = omega arith
+
+    pub count-asks : (symbols : ℕ) → symbols ≡ total known (take (k * n) src)
+        → (mag (toZ w16 (ofZ w16 (getD m 0 (pos 0)))) < 20000) × (symbols ≤ 3456) × (down (toZ w16 (ofZ w16 (getD m 0 (pos 0)))) ≤ symbols)
+    count-asks symbols e =
+        rw read (
+          small,
+          omega (arith, knowns-le k t table src n hn),
+          omega (arith, down-le (getD m 0 (pos 0)) (metric handicap (received k t src n) 0) (total known (take (k * n) src)) (f .scores 0 (omega arith))),
+        )
+
+    -- ---- the answer
+    module _ (code : List (List ℕ)) (tells : Tells code k t) where
+      abbrev far : List ℕ → ℕ
+      far v = distance disagrees src (encode (told k t) 0 v)
+
+      far-is : (v : List ℕ) → Candidate n v → far v ≡ disagreements code n src v
+      far-is v c =
+          ap (distance disagrees src) (encode-same (told k t) (outputs code) (tells .says) 0 v (omega arith) (c .bits))
+          ∙ sym (distance-take disagrees (length code * n) src (encode (outputs code) 0 v)
+          (omega (arith, encode-length (outputs code) (length code) (outputs-length code) 0 v, ap (λ (x : ℕ). length code * x) (c .len))))
+
+      wide : (x : ℕ) → length (told k t x) ≡ k
+      wide x = tabulate-length _ k
+
+      decode-is : decode disagrees (told k t) k handicap src n ≡ decoded code n src
+      decode-is = decode-nearest disagrees (told k t) k wide handicap src n room refl starts ∙ nearest-same far (disagreements code n src) n far-is
+
+      word-is : reverse (walk now n 0) ≡ decoded code n src
+      unfolding decode
+      word-is = ap reverse (walk-is k t src now n 0 (omega arith) (f .choices)) ∙ decode-is
+
+      count-is : metric handicap (received k t src n) 0 ≡ disagreements code n src (decoded code n src)
+      count-is =
+          sym (decode-distance disagrees (told k t) k wide handicap src n room refl starts)
+          ∙ ap far decode-is ∙ far-is (decoded code n src) (nearest-wins (disagreements code n src) n .candidate)
+
+      rest : drop n now ≡ drop n was
+      rest =
+          ext-getD 0 (drop n now) (drop n was) (length-drop n now ∙ ap (λ (x : ℕ). x - n) (f .long) ∙ sym (length-drop n was))
+          (λ i h. getD-drop n now i 0 ∙ f .rest (n + i) (omega arith) ∙ sym (getD-drop n was i 0))
+
+      pub ran : n ≤ length was → n ≤ length target → (symbols count : ℕ) → symbols ≡ total known (take (k * n) src)
+          → ((x : ℕ) → Stands (toZ w16 (ofZ w16 (getD m 0 (pos 0)))) x symbols → count ≡ x)
+          → Decodes code n src target target′ was now′ (Word count)
+      ran ht hd symbols count e h =
+          answered code n src target target′ was now′ count (none n (length src) (length was) (length target) k code (tells .rate) hn room ht hd)
+          (h (metric handicap (received k t src n) 0) (rw (read, e) (f .scores 0 (omega arith))) ∙ count-is)
+          (b .word ∙ ap (λ (w : List ℕ). written w target) word-is)
+          (b .clears ∙ ap (λ (l : List ℕ). replicate n 0 ++ l) rest)

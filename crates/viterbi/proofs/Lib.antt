@@ -1,0 +1,13 @@
+pub mod Signed
+pub mod Sixteen
+pub mod Branches
+pub mod Windows
+pub mod Ways
+pub mod Counts
+pub mod Refusals
+pub mod Pass
+pub mod Walks
+pub mod Codes
+pub mod Answers
+pub mod Tables
+pub mod Promises
