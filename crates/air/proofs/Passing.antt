@@ -4,10 +4,9 @@
 -- Assumes nothing.
 use mathlib.Core.Path.{_≡_, refl, sym, ap, ap₂, _∙_}
 use mathlib.Core.List.{List, [], _∷_}
-use Prim.Native.Nat.{ℕ, zero, suc, _+_, _≤_, _<_}
+use Prim.Native.Nat.{ℕ, zero, suc, _≤_, _<_}
 use native.Mathlib.Omega.{arith}
 use lib.ListN.{length, getD, set, replicate, length-replicate, getD-replicate}
-use lib.Seq.{ext-getD}
 use Rattle.base.specs.Bits.{Bits}
 use Rattle.base.specs.Places.{tabulate, gather, scatter, Apart, Within}
 use Rattle.base.proofs.BitLaws.{bits-at, bits-tabulate}
@@ -91,21 +90,6 @@ unfolding scatter
 scatter-bits place zero src dst b c = c
 scatter-bits place (suc n) src dst b c =
     set-bits (scatter place n src dst) (place n) (getD src n 0) (scatter-bits place n src dst b c) (bits-at src b n)
-
--- where the places fill the target, nothing of it is left
-pub scatter-full : (place : ℕ → ℕ) (n : ℕ) (src dst other : List ℕ) → Apart place n → Within place n n → Onto place n
-    → length dst ≡ n → length other ≡ n → scatter place n src dst ≡ scatter place n src other
-scatter-full place n src dst other a w o d e =
-    ext-getD 0 (scatter place n src dst) (scatter place n src other)
-    (scatter-length place n src dst ∙ d ∙ sym (scatter-length place n src other ∙ e))
-    (λ x h. at x (o x (omega (arith, scatter-length place n src dst))))
-  where
-    at : (x : ℕ) → (i : ℕ) × (i < n) × (place i ≡ x) → getD (scatter place n src dst) x 0 ≡ getD (scatter place n src other) x 0
-    at x q =
-        ap (λ (y : ℕ). getD (scatter place n src dst) y 0) (sym (q .2))
-        ∙ scatter-hit place n src dst a (λ i p. omega (arith, w i p)) (q .0) (q .1)
-        ∙ sym (scatter-hit place n src other a (λ i p. omega (arith, w i p)) (q .0) (q .1))
-        ∙ ap (λ (y : ℕ). getD (scatter place n src other) y 0) (q .2)
 
 -- ---- all three stages: n symbols undone, fetched from their places and put among erasures, held against a mother word,
 -- cost what they cost against that word punctured, moved to these places and sent

@@ -1,11 +1,11 @@
 -- The nearest word on the air, for any way of sending words: symbols that change toward what it sends leave it the nearest.
 -- Assumes nothing.
-use mathlib.Core.Path.{_≡_, refl, sym, ap, _∙_, subst}
+use mathlib.Core.Path.{_≡_, sym, _∙_, subst}
 use mathlib.Core.List.{List, [], _∷_}
 use mathlib.Core.Logic.{_⊎_, inl, inr}
-use Prim.Native.Nat.{ℕ, zero, suc, _+_, _≤_, _<_}
+use Prim.Native.Nat.{ℕ, suc, _+_, _≤_, _<_}
 use native.Mathlib.Omega.{arith}
-use lib.ListN.{length, getD}
+use lib.ListN.{length}
 use Rattle.base.specs.Bits.{Bits}
 use Rattle.air.specs.Filling.{Filled}
 use Rattle.trellis.specs.Nearest.{distance, nearest, Candidate}

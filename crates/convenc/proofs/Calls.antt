@@ -1,6 +1,6 @@
 -- What a caller of an encoder uses: when it accepts, what it then leaves, and that two calls in a row are one over the joined input.
 -- Assumes nothing.
-use mathlib.Core.Path.{_≡_, refl, sym, ap, _∙_}
+use mathlib.Core.Path.{_≡_, refl, sym, ap, subst, _∙_}
 use mathlib.Core.List.{List, [], _∷_, _++_}
 use Prim.Native.Nat.{ℕ, _*_, _≤_}
 use native.Mathlib.Omega.{arith}
@@ -12,11 +12,11 @@ use Rattle.base.specs.Bits.{Bits}
 use Rattle.base.specs.Places.{written}
 use Rattle.base.proofs.BitLaws.{bits-only-yes}
 use Rattle.trellis.specs.Nearest.{encode}
-use Rattle.convenc.specs.Generators.{outputs, held, delays, encodeRefusal, Encoded}
+use Rattle.convenc.specs.Generators.{speech, outputs, held, delays, encodeRefusal, Encoded, InTurn}
 use Rattle.convenc.specs.Puncturing.{needed, punctureRefusal, depunctureRefusal}
-use Rattle.convenc.proofs.Delays.{Four, held-after}
+use Rattle.convenc.proofs.Delays.{Four, four-after, held-after}
 use Rattle.convenc.proofs.Encoding.{encode-append}
-use Rattle.convenc.proofs.Refusing.{refuses-none, moving-none}
+use Rattle.convenc.proofs.Refusing.{accepts, refuses-none, moving-none}
 
 -- bits, few enough and with room for their outputs, are accepted
 pub encode-accepts : (rate : ℕ) (d src : List ℕ) (dst : ℕ) → length src ≤ 4096 → rate * length src ≤ dst → Bits src → Bits d → encodeRefusal rate d src dst ≡ accepted
@@ -41,3 +41,27 @@ pub two-calls : (code : List (List ℕ)) (d v w : List ℕ) → Four d → Bits 
     → encode (outputs code) (held d) v ++ encode (outputs code) (held (delays d v)) w ≡ encode (outputs code) (held d) (v ++ w)
 two-calls code d v w f b =
     ap (λ (s : ℕ). encode (outputs code) (held d) v ++ encode (outputs code) s w) (held-after d v f b) ∙ sym (encode-append (outputs code) (held d) v w)
+
+-- four delays of an encoder that has taken nothing
+abbrev pub clear : List ℕ
+clear = 0 ∷ 0 ∷ 0 ∷ 0 ∷ []
+
+clear-four : Four clear
+clear-four = record { len = refl; bits = (omega arith, (omega arith, (omega arith, (omega arith, tt)))) }
+
+-- the two targets of one new encoder that is lent twice
+pub in-turn : (v w x x′ y y′ d e f : List ℕ) (one two : Outcome) → d ≡ clear → Encoded speech d v x one e x′ → Encoded speech e w y two f y′
+    → encodeRefusal 3 clear v (length x) ≡ accepted → encodeRefusal 3 clear w (length y) ≡ accepted → InTurn v w x x′ y y′
+in-turn v w x x′ y y′ d e f one two new first second open-first open-second =
+    let granted = accepts 3 clear v (length x) open-first in
+    let further = accepts 3 clear w (length y) open-second in
+    let left = encodes speech clear v x one e x′ (subst (λ (l : List ℕ). Encoded speech l v x one e x′) new first) open-first in
+    let held-on : Four e = subst Four (sym (left .1)) (four-after clear v clear-four (granted .input)) in
+    let right = encodes speech e w y two f y′ second
+    (encode-accepts 3 e w (length y) (further .limit) (further .room) (further .input) (held-on .bits)) in
+    record {
+      before = left .2;
+      beyond =
+          right .2
+          ∙ ap (λ (s : ℕ). written (encode (outputs speech) s w) y) (ap held (left .1) ∙ held-after clear v clear-four (granted .input));
+    }

@@ -1,8 +1,8 @@
 -- Laws of the encoder: what it puts out for a longer input, how much, at which place, and that it is bits.
 -- Assumes nothing.
-use mathlib.Core.Path.{_≡_, refl, sym, ap, ap₂, _∙_}
-use mathlib.Core.List.{List, [], _∷_, _++_, append-assoc, map}
-use Prim.Native.Nat.{ℕ, zero, suc, _+_, _*_, _/_, _%_, _≤_, _<_}
+use mathlib.Core.Path.{_≡_, refl, sym, ap, _∙_}
+use mathlib.Core.List.{List, [], _∷_, _++_, append-assoc}
+use Prim.Native.Nat.{ℕ, zero, suc, _+_, _*_, _/_, _<_}
 use native.Mathlib.Nat.{mul-suc, mul-zero}
 use native.Mathlib.Omega.{arith}
 use lib.ListN.{length, take, getD, length-append, length-map, List·getD-append}
@@ -10,7 +10,7 @@ use lib.Seq.{getD-append-add}
 use Rattle.base.specs.Bits.{Bits}
 use Rattle.base.proofs.BitLaws.{bits-append}
 use Rattle.trellis.specs.Nearest.{encode, after}
-use Rattle.convenc.specs.Generators.{dot, tapped, outputs}
+use Rattle.convenc.specs.Generators.{tapped, outputs}
 
 -- ---- two inputs in a row are one
 pub encode-append : (out : ℕ → List ℕ) (s : ℕ) (v w : List ℕ) → encode out s (v ++ w) ≡ encode out s v ++ encode out (after s v) w

@@ -10,3 +10,4 @@ pub mod Steps
 pub mod Undone
 pub mod Bench
 pub mod Matching
+pub mod Lent

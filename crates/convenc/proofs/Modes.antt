@@ -1,20 +1,20 @@
--- Laws of the puncturing modes: the flat table holds each mode's positions, and the kept positions rise strictly.
+-- Laws of the puncturing modes: the kept positions rise strictly, and the code's table holds them.
 -- Assumes nothing.
-use mathlib.Core.Path.{_≡_, refl, sym, ap, ap₂, subst, _∙_}
+use mathlib.Core.Path.{_≡_, refl, sym, ap, subst, _∙_}
 use mathlib.Core.List.{List, [], _∷_}
 use mathlib.Core.Bool.{Bool, true, false}
-use mathlib.Core.Logic.{_⊎_, inl, inr, ⊎-elim}
+use mathlib.Core.Logic.{_⊎_, inl, inr}
 use Prim.Native.Nat.{ℕ, zero, suc, _+_, _-_, _*_, _/_, _%_, _≤_, _<_}
 use native.Mathlib.Nat.{mul-add, mul-one, mul-add-div, mul-add-mod-self-left, div-eq-of-lt, mod-eq-of-lt, mod-lt, div-add-mod}
 use native.Mathlib.Numerals.{add-one}
 use native.Mathlib.Omega.{arith}
 use lib.Dec.{T, leb, ltb, eqb, eqb→eq, ltb→lt, leb→le}
+use lib.ListN.{getD}
 use borrow.Author.Tests.{ltb-true, ltb-false, lt-leb}
-use lib.ListN.{length, getD}
-use Rattle.base.specs.Bits.{both, either}
+use Rattle.base.specs.Bits.{either}
 use Rattle.base.specs.Places.{Apart, Within}
 use Rattle.base.proofs.Table.{below, at}
-use Rattle.convenc.specs.Walk.{starts, runs}
+use Rattle.convenc.specs.Walk.{runs}
 use Rattle.convenc.specs.Puncturing.{outputsKept, periods, kept, index, position, positionOf, keptPlace, needed}
 
 -- a rule of the seven modes
@@ -236,19 +236,22 @@ needed-some mode (suc n) h =
     ap (position mode) e
 
 -- ---- what the code holds
--- the flat list of all modes' positions
-abbrev pub flat : List ℕ
-flat =
-    1 ∷ 2 ∷ 5 ∷ 1 ∷ 2 ∷ 3 ∷ 5 ∷ 6 ∷ 7 ∷ 1 ∷ 2 ∷ 5 ∷ 1 ∷ 2 ∷ 3 ∷ 5 ∷ 6 ∷ 7 ∷ 1 ∷ 2 ∷ 4 ∷ 1 ∷ 2 ∷ 3 ∷ 4 ∷ 5 ∷ 7 ∷ 8 ∷ 10 ∷ 11
-    ∷ 1 ∷ 2 ∷ 3 ∷ 4 ∷ 5 ∷ 7 ∷ 8 ∷ 10 ∷ 11 ∷ 13 ∷ 14 ∷ 16 ∷ 17 ∷ 19 ∷ 20 ∷ 22 ∷ 23 ∷ []
+-- the modes' positions, each list filled up with zeros
+abbrev pub rows : List (List ℕ)
+rows =
+    (1 ∷ 2 ∷ 5 ∷ 0 ∷ 0 ∷ 0 ∷ 0 ∷ 0 ∷ 0 ∷ 0 ∷ 0 ∷ 0 ∷ 0 ∷ 0 ∷ 0 ∷ 0 ∷ 0 ∷ [])
+    ∷ (1 ∷ 2 ∷ 3 ∷ 5 ∷ 6 ∷ 7 ∷ 0 ∷ 0 ∷ 0 ∷ 0 ∷ 0 ∷ 0 ∷ 0 ∷ 0 ∷ 0 ∷ 0 ∷ 0 ∷ [])
+    ∷ (1 ∷ 2 ∷ 5 ∷ 0 ∷ 0 ∷ 0 ∷ 0 ∷ 0 ∷ 0 ∷ 0 ∷ 0 ∷ 0 ∷ 0 ∷ 0 ∷ 0 ∷ 0 ∷ 0 ∷ [])
+    ∷ (1 ∷ 2 ∷ 3 ∷ 5 ∷ 6 ∷ 7 ∷ 0 ∷ 0 ∷ 0 ∷ 0 ∷ 0 ∷ 0 ∷ 0 ∷ 0 ∷ 0 ∷ 0 ∷ 0 ∷ [])
+    ∷ (1 ∷ 2 ∷ 4 ∷ 0 ∷ 0 ∷ 0 ∷ 0 ∷ 0 ∷ 0 ∷ 0 ∷ 0 ∷ 0 ∷ 0 ∷ 0 ∷ 0 ∷ 0 ∷ 0 ∷ [])
+    ∷ (1 ∷ 2 ∷ 3 ∷ 4 ∷ 5 ∷ 7 ∷ 8 ∷ 10 ∷ 11 ∷ 0 ∷ 0 ∷ 0 ∷ 0 ∷ 0 ∷ 0 ∷ 0 ∷ 0 ∷ [])
+    ∷ (1 ∷ 2 ∷ 3 ∷ 4 ∷ 5 ∷ 7 ∷ 8 ∷ 10 ∷ 11 ∷ 13 ∷ 14 ∷ 16 ∷ 17 ∷ 19 ∷ 20 ∷ 22 ∷ 23 ∷ [])
+    ∷ []
 
-pub flat-kept : (mode i : ℕ) → mode ≤ 6 → i < t-of mode → getD flat (getD starts mode 0 + i) 0 ≡ getD (kept-of mode) i 0
-flat-kept mode i h l =
-    eqb→eq (getD flat (getD starts mode 0 + i) 0) (getD (kept-of mode) i 0)
-    (entries (λ m i. eqb (getD flat (getD starts m 0 + i) 0) (getD (kept-of m) i 0)) tt mode i h l)
-
-pub flat-room : (mode : ℕ) → mode ≤ 6 → getD starts mode 0 + t-of mode ≤ 47
-flat-room = modes-le (λ m. getD starts m 0 + t-of m) (λ m. 47) tt
+pub rows-kept : (mode i : ℕ) → mode ≤ 6 → i < t-of mode → getD (getD rows mode []) i 0 ≡ getD (kept-of mode) i 0
+rows-kept mode i h l =
+    eqb→eq (getD (getD rows mode []) i 0) (getD (kept-of mode) i 0)
+    (entries (λ m i. eqb (getD (getD rows m []) i 0) (getD (kept-of m) i 0)) tt mode i h l)
 
 -- as many entries of P are behind as there were outputs and positions passed over
 pub index-run : (mode : ℕ) → mode ≤ 6 → (j : ℕ) → j < 4096 → index mode (j + 1) ≡ j + j / getD runs mode 0 + 1

@@ -1,22 +1,22 @@
 -- What a refusal number says: the tests that led to it, and what holds where nothing is refused.
 -- Assumes nothing.
-use mathlib.Core.Path.{_≡_, refl, sym, ap, ap₂, subst, _∙_}
+use mathlib.Core.Path.{_≡_, refl, sym, subst}
 use mathlib.Core.List.{List, [], _∷_}
 use mathlib.Core.Bool.{Bool, true, false, not}
-use Prim.Native.Nat.{ℕ, zero, suc, _+_, _*_, _≤_, _<_}
+use Prim.Native.Nat.{ℕ, zero, suc, _*_, _≤_, _<_}
 use native.Mathlib.Nat.{mul-zero}
 use native.Mathlib.Omega.{arith}
 use lib.Dec.{ltb}
-use borrow.Author.Tests.{ltb-false, not-false, lt-ltb, le-ltb}
-use lib.ListN.{length, take}
+use lib.ListN.{length}
 use lib.Seq.{take-length}
+use borrow.Author.Tests.{ltb-false, not-false, lt-ltb, le-ltb}
 use Rattle.base.specs.Bits.{Bits, bitsOnly}
 use Rattle.base.specs.Refusal.{LIMIT, SHORT, ROOM, BIT, KIND, accepted, when, unless, outcome}
 use Rattle.base.proofs.BitLaws.{bits-only-bits}
-use Rattle.convenc.specs.Generators.{encodeRefusal, outputs, held, delays, Encoded}
 use Rattle.base.specs.declared.Outcome.the-variants.{Done, Refused}
 use Rattle.base.specs.Places.{written}
 use Rattle.trellis.specs.Nearest.{encode}
+use Rattle.convenc.specs.Generators.{encodeRefusal, outputs, held, delays, Encoded}
 
 -- where a chain of tests refuses nothing, its first test failed and the later ones refuse nothing
 pub when-accepted : (t : Bool) (number later : ℕ) → when t (suc number) later ≡ accepted → (t ≡ false) × (later ≡ accepted)

@@ -1,25 +1,25 @@
 -- What an encoder's loop holds after i bits, over the code: the state and the target that the definition gives for those bits.
 -- Assumes nothing.
 use mathlib.Core.Path.{_≡_, refl, sym, ap, ap₂, subst, _∙_}
-use mathlib.Core.List.{List, [], _∷_, _++_, append-assoc, append-nil}
-use Prim.Native.Nat.{ℕ, zero, suc, _+_, _*_, _≤_, _<_}
+use mathlib.Core.List.{List, [], _∷_, _++_, append-nil}
+use Prim.Native.Nat.{ℕ, suc, _+_, _*_, _≤_, _<_}
 use native.Mathlib.Nat.{mul-suc, mul-zero, mul-le-mul-left}
 use native.Mathlib.Numerals.{add-one}
 use native.Mathlib.Omega.{arith}
 use lib.ListN.{length, take, drop, getD, set, length-append}
 use lib.Seq.{sets, sets-eq, take-suc, take-all, take-at, drop-append-add, drop-drop, length-take-le}
+use lib.Dec.{T}
 use Rattle.base.specs.Bits.{Bits}
 use Rattle.base.specs.Places.{written}
 use Rattle.base.proofs.Lists.{written-length}
 use Rattle.base.proofs.BitLaws.{bits-at, bits-only-bits, bits-only-yes}
+use Rattle.base.specs.Refusal.{accepted}
 use Rattle.trellis.specs.Nearest.{encode, after}
 use Rattle.convenc.specs.Generators.{outputs, held, delays, encodeRefusal}
-use Rattle.base.specs.Refusal.{accepted}
 use Rattle.convenc.proofs.Encoding.{encode-append, encoded-length, outputs-length}
 use Rattle.convenc.proofs.Delays.{Four, four, four-bits, delays-none, delays-append, four-after, held-after}
 use Rattle.convenc.proofs.Refusing.{accepts}
 use Rattle.convenc.proofs.Taps.{taps, taps-outputs, proper}
-use lib.Dec.{T}
 
 -- what is written goes on where it ended
 pub written-on : (new old more : List ℕ) (at : ℕ) → at ≡ length new → length new + length more ≤ length old

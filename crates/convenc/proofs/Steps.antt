@@ -2,17 +2,17 @@
 -- Assumes nothing.
 use mathlib.Core.Path.{_≡_, refl, sym, ap, ap₂, _∙_}
 use mathlib.Core.List.{List, [], _∷_}
-use mathlib.Core.Bool.{Bool, true, false}
+use mathlib.Core.Bool.{Bool}
 use Prim.Native.Nat.{ℕ, zero, suc, _+_, _-_, _*_, _/_, _%_, _≤_, _<_}
 use native.Mathlib.Nat.{mul-add, mul-comm, mul-assoc, mod-lt, div-add-mod, mul-add-div}
 use native.Mathlib.Omega.{arith}
 use lib.Dec.{T, leb, ltb, eqb, eqb→eq, leb→le, ltb→lt}
+use lib.ListN.{getD}
 use borrow.Author.Tests.{lt-leb}
-use lib.ListN.{length, getD}
 use Rattle.base.specs.Bits.{both, either}
 use Rattle.base.specs.Places.{Within}
 use Rattle.base.proofs.Table.{below, at, both-left, both-right}
-use Rattle.convenc.specs.Puncturing.{outputsKept, periods, kept, index, position, keptPlace, needed}
+use Rattle.convenc.specs.Puncturing.{index, position, keptPlace}
 use Rattle.convenc.proofs.Modes.{by-mode, modes, modes-le, t-of, period-of, kept-of, entry, position-entry, quotient, remainder, kept-rises, second}
 
 -- how many outputs a step has, by mode: four of the control code, three of the speech code

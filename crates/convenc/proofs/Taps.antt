@@ -1,20 +1,20 @@
 -- A generator's taps: sums mod 2 of the window's bits are what the code makes by exclusive or.
 -- Assumes nothing.
 use mathlib.Core.Path.{_≡_, refl, sym, ap, ap₂, subst, _∙_}
-use mathlib.Core.List.{List, [], _∷_, _++_}
-use Prim.Native.Nat.{ℕ, zero, suc, _+_, _*_, _/_, _%_, _^_, _≤_, _<_}
-use native.Mathlib.Omega.{arith}
-use lib.ListN.{length, take, getD}
+use mathlib.Core.List.{List, [], _∷_}
 use mathlib.Core.Bool.{Bool, true, false}
+use Prim.Native.Nat.{ℕ, zero, suc, _+_, _*_, _/_, _%_, _<_}
+use native.Mathlib.Omega.{arith}
+use lib.ListN.{length, getD}
 use lib.Dec.{T, eqb, eqb→eq}
 use lib.Bits.{bitXor}
 use lib.Seq.{take-length}
 use Rattle.base.specs.Bits.{Bits, both, bitsOnly}
-use Rattle.base.specs.Digits.{digits, number}
+use Rattle.base.specs.Digits.{digits}
 use Rattle.base.proofs.Xor.{xor-bit}
-use Rattle.convenc.specs.Generators.{dot, tapped, outputs, held, control, controlThird, speech}
 use Rattle.base.proofs.BitLaws.{bits-at, bits-only-bits}
 use Rattle.base.proofs.Table.{both-left, both-right}
+use Rattle.convenc.specs.Generators.{dot, tapped, outputs, held}
 use Rattle.convenc.proofs.Delays.{Four, four}
 
 -- exclusive or of x and a list, from the left

@@ -1,28 +1,26 @@
 -- Going through a mode's positions by a running index: the place that the code holds is the kept place of the next output.
 -- Assumes nothing.
-use mathlib.Core.Path.{_≡_, refl, sym, ap, ap₂, subst, _∙_}
-use mathlib.Core.List.{List, [], _∷_}
-use Prim.Native.Nat.{ℕ, zero, suc, _+_, _-_, _*_, _/_, _%_, _≤_, _<_}
+use mathlib.Core.Path.{_≡_, sym, ap, subst, _∙_}
+use mathlib.Core.List.{[]}
+use Prim.Native.Nat.{ℕ, _+_, _-_, _*_, _/_, _%_, _≤_, _<_}
 use native.Mathlib.Nat.{mul-add, mul-one, mul-zero, zero-div, zero-mod, mod-lt, div-le-self, div-add-mod, mul-le-mul}
-use native.Mathlib.Numerals.{add-one}
 use native.Mathlib.Omega.{arith}
-use lib.Dec.{T, leb, leb→le, eqb, eqb→eq}
-use lib.ListN.{length, getD}
+use lib.Dec.{leb, leb→le, eqb, eqb→eq}
+use lib.ListN.{getD}
 use Rattle.convenc.specs.declared.Puncturer.{Puncturer}
 use Rattle.convenc.specs.declared.Kept.{Kept}
-use Rattle.convenc.specs.Walk.{starts, runs, Sound, Parameters, Lies, Stands}
+use Rattle.convenc.specs.Walk.{runs, Sound, Parameters, Lies, Stands}
 use Rattle.convenc.specs.Puncturing.{outputsKept, periods, position, keptPlace, needed}
-use Rattle.convenc.proofs.Modes.{t-of, period-of, kept-of, modes, modes-le, entries, stays, wraps, entry, position-entry, flat, flat-kept, flat-room, index-run, kept-within}
+use Rattle.convenc.proofs.Modes.{t-of, period-of, kept-of, modes, modes-le, entries, stays, wraps, entry, position-entry, rows, rows-kept, index-run, kept-within}
 
 -- ---- a mode's parameters
 -- the tables, read at a mode
 pub parameters : (mode : ℕ) → mode ≤ 6 → (p : Puncturer)
-    → p .start ≡ getD starts mode 0 → p .t ≡ getD outputsKept mode 0 → p .period ≡ getD periods mode 0 → p .run ≡ getD runs mode 0 → Parameters mode p
-parameters mode h p a b c d = record {
-  start = a;
-  t = b ∙ eqb→eq (getD outputsKept mode 0) (t-of mode) (modes (λ m. eqb (getD outputsKept m 0) (t-of m)) tt mode h);
-  period = c;
-  run = d;
+    → p .t ≡ getD outputsKept mode 0 → p .period ≡ getD periods mode 0 → p .run ≡ getD runs mode 0 → Parameters mode p
+parameters mode h p a b c = record {
+  t = a ∙ eqb→eq (getD outputsKept mode 0) (t-of mode) (modes (λ m. eqb (getD outputsKept m 0) (t-of m)) tt mode h);
+  period = b;
+  run = c;
   sound = record {
     t-least = omega (arith, modes-le (λ m. 2) (λ m. getD outputsKept m 0) tt mode h);
     t-most = omega (arith, modes-le (λ m. getD outputsKept m 0) (λ m. 17) tt mode h);
@@ -96,19 +94,19 @@ stands-first p b i s =
     }
 
 -- ---- the place
--- what is read of the flat table at a base and an index, and the position that it makes
-pub record Reads (mode j start base index : ℕ) : Type 0 where
-  pub entry : start + index < 47
-  pub some : 1 ≤ getD flat (start + index) 0
-  pub most : getD flat (start + index) 0 ≤ 24
+-- what is read of the table at an index, and the position that it makes with a base
+pub record Reads (mode j base index : ℕ) : Type 0 where
+  pub entry : index < 17
+  pub some : 1 ≤ getD (getD rows mode []) index 0
+  pub most : getD (getD rows mode []) index 0 ≤ 24
   pub near : base ≤ 196608
-  pub position : base + getD flat (start + index) 0 ≡ position mode (j + 1)
+  pub position : base + getD (getD rows mode []) index 0 ≡ position mode (j + 1)
 
 module _ (mode j : ℕ) (p : Puncturer) (h : mode ≤ 6) (l : j < 4096) (par : Parameters mode p) where
-  pub reads : Reads mode j (p .start) (p .period * ((j + j / p .run) / p .t)) ((j + j / p .run) % p .t)
+  pub reads : Reads mode j (p .period * ((j + j / p .run) / p .t)) ((j + j / p .run) % p .t)
   unfolding entry
-  reads = rw (par .start, par .t, par .period, par .run) (record {
-    entry = omega (arith, r, flat-room mode h);
+  reads = rw (par .t, par .period, par .run) (record {
+    entry = omega (arith, r, modes-le t-of (λ m. 17) tt mode h);
     some = rw k (leb→le 1 (getD (kept-of mode) (x % t-of mode) 0) (entries (λ m i. leb 1 (getD (kept-of m) i 0)) tt mode (x % t-of mode) h r));
     most = rw k (leb→le (getD (kept-of mode) (x % t-of mode) 0) 24 (entries (λ m i. leb (getD (kept-of m) i 0) 24) tt mode (x % t-of mode) h r));
     near =
@@ -122,16 +120,16 @@ module _ (mode j : ℕ) (p : Puncturer) (h : mode ≤ 6) (l : j < 4096) (par : P
       r : x % t-of mode < t-of mode
       r = mod-lt x {m = t-of mode} (modes-le (λ m. 1) t-of tt mode h)
 
-      k : getD flat (getD starts mode 0 + x % t-of mode) 0 ≡ getD (kept-of mode) (x % t-of mode) 0
-      k = flat-kept mode (x % t-of mode) h r
+      k : getD (getD rows mode []) (x % t-of mode) 0 ≡ getD (kept-of mode) (x % t-of mode) 0
+      k = rows-kept mode (x % t-of mode) h r
 
-  pub here : (at : Kept) → Stands p j at → Reads mode j (p .start) (at .base) (at .index)
+  pub here : (at : Kept) → Stands p j at → Reads mode j (at .base) (at .index)
   here at stands = rw (stands .lies .base, stands .lies .index) reads
 
-pub reads-place : {mode j start base index : ℕ} → Reads mode j start base index → base + getD flat (start + index) 0 - 1 ≡ keptPlace mode j
+pub reads-place : {mode j base index : ℕ} → Reads mode j base index → base + getD (getD rows mode []) index 0 - 1 ≡ keptPlace mode j
 reads-place r = ap (λ (k : ℕ). k - 1) (r .position)
 
 -- a place of the first n lies in what holds k(n) entries
-pub reads-below : {mode j start base index : ℕ} (n m : ℕ) → Reads mode j start base index → mode ≤ 6 → j < n → needed mode n ≤ m
-    → base + getD flat (start + index) 0 - 1 < m
+pub reads-below : {mode j base index : ℕ} (n m : ℕ) → Reads mode j base index → mode ≤ 6 → j < n → needed mode n ≤ m
+    → base + getD (getD rows mode []) index 0 - 1 < m
 reads-below {mode} {j} n m r h l k = omega (arith, reads-place r, kept-within mode h n j l)

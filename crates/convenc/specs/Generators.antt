@@ -2,8 +2,8 @@
 -- Assumes nothing.
 use mathlib.Core.Path.{_≡_}
 use mathlib.Core.List.{List, [], _∷_, _++_, map, reverse}
-use mathlib.Core.Bool.{Bool, true, false, not}
-use Prim.Native.Nat.{ℕ, zero, suc, _+_, _*_, _%_}
+use mathlib.Core.Bool.{not}
+use Prim.Native.Nat.{ℕ, _+_, _*_, _%_}
 use lib.Dec.{ltb}
 use lib.ListN.{length, take}
 use Rattle.base.specs.declared.Outcome.{Outcome}
@@ -11,7 +11,7 @@ use Rattle.base.specs.Refusal.{LIMIT, ROOM, BIT, accepted, when, unless, outcom
 use Rattle.base.specs.Places.{written}
 use Rattle.base.specs.Bits.{bitsOnly}
 use Rattle.base.specs.Digits.{digits, number}
-use Rattle.trellis.specs.Nearest.{encode}
+use Rattle.trellis.specs.Nearest.{encode, after}
 
 -- a generator is the list of its coefficients, of D^0 to D^4
 abbrev pub control : List (List ℕ)
@@ -63,3 +63,9 @@ pub record Encoded (code : List (List ℕ)) (delayed src dst : List ℕ) (answer
   pub answered : answer ≡ outcome (encodeRefusal (length code) delayed src (length dst))
   pub target : dst′ ≡ unless (encodeRefusal (length code) delayed src (length dst)) (written (encode (outputs code) (held delayed) src) dst) dst
   pub state : delayed′ ≡ unless (encodeRefusal (length code) delayed src (length dst)) (delays delayed src) delayed
+
+-- what one new speech encoder leaves in two targets when it is lent to two calls in a row
+pub record InTurn (first second x x′ y y′ : List ℕ) : Type 0 where
+  pub before : x′ ≡ written (encode (outputs speech) 0 first) x
+  -- the second call goes on from the last bits of the first
+  pub beyond : y′ ≡ written (encode (outputs speech) (after 0 first) second) y

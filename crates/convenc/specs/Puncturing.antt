@@ -4,7 +4,7 @@
 use mathlib.Core.List.{List, [], _∷_}
 use Prim.Native.Nat.{ℕ, zero, suc, _+_, _-_, _*_, _/_}
 use lib.Dec.{ltb}
-use lib.ListN.{length, getD}
+use lib.ListN.{getD}
 use Rattle.base.specs.Refusal.{LIMIT, SHORT, ROOM, KIND, accepted, when}
 use Rattle.base.specs.Places.{gather, scatter}
 

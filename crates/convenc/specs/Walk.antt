@@ -2,15 +2,11 @@
 -- Assumes nothing.
 use mathlib.Core.Path.{_≡_}
 use mathlib.Core.List.{List, [], _∷_}
-use Prim.Native.Nat.{ℕ, _+_, _*_, _/_, _%_, _≤_, _<_}
+use Prim.Native.Nat.{ℕ, _+_, _*_, _/_, _%_, _≤_}
 use lib.ListN.{getD}
 use Rattle.convenc.specs.declared.Puncturer.{Puncturer}
 use Rattle.convenc.specs.declared.Kept.{Kept}
 use Rattle.convenc.specs.Puncturing.{outputsKept, periods}
-
--- where each mode's positions begin in the list of all
-abbrev pub starts : List ℕ
-starts = 0 ∷ 3 ∷ 9 ∷ 12 ∷ 18 ∷ 21 ∷ 30 ∷ []
 
 -- after how many outputs a mode passes one position over; 4096 stands for never, since no more outputs are made
 abbrev pub runs : List ℕ
@@ -24,7 +20,6 @@ pub record Sound (p : Puncturer) : Type 0 where
   pub run-most : p .run ≤ 4096
 
 pub record Parameters (mode : ℕ) (p : Puncturer) : Type 0 where
-  pub start : p .start ≡ getD starts mode 0
   pub t : p .t ≡ getD outputsKept mode 1
   pub period : p .period ≡ getD periods mode 0
   pub run : p .run ≡ getD runs mode 0

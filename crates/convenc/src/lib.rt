@@ -1,7 +1,7 @@
 // The mother codes of control and speech, puncturing in seven modes, and the comparison of mother words.
-// Ported from lmac/components/convenc.rs; changed: an encoder's state goes in by value and is handed back, what the original
-// panics on is refused by number, a mode is a number, and its P, t and period stand in flat tables. A caller gets the whole
-// output or, with a refusal, nothing written and the state as it was.
+// Ported from lmac/components/convenc.rs; changed: an encoder goes in by value and is handed back, and the speech encoder may be
+// lent too; what the original panics on is refused by number; a mode is a number that its P, t and period are looked up by.
+// A caller gets the whole output or, beside a refusal, nothing written and the encoder as it was.
 ghost use mathlib.Core.Path.{_≡_};
 ghost use mathlib.Core.List.{[], _∷_};
 ghost use Prim.Native.Nat.{ℕ, _+_, _≤_, _<_, min};
@@ -14,6 +14,8 @@ ghost use Rattle.convenc.specs.Puncturing.{needed, punctureRefusal, depu
 ghost use Rattle.convenc.specs.Walk.{Sound, Parameters, Lies, Stands};
 ghost use Rattle.convenc.specs.Comparing.{compare, compared};
 use base::Outcome;
+
+pub mod inner;
 
 // The control encoder: the last four bits it took, the newest first.
 pub struct ConvEncState {
@@ -61,6 +63,13 @@ fn encode_refusal(rate: usize, delayed: [u8; 4], input: &[u8], room: usize) -> u
     0
 }
 
+// The delays after one more bit: it comes first, and the oldest goes.
+fn shifted(delayed: [u8; 4], bit: u8) -> [u8; 4]
+    ensures { λ r. ⌜ r ≡ delays delayed (bit ∷ []) ⌝ }
+{
+    [bit, delayed[0], delayed[1], delayed[2]]
+}
+
 impl ConvEncState {
     // An encoder that has taken nothing.
     pub fn new() -> Self
@@ -80,10 +89,9 @@ impl ConvEncState {
     fn after(self, bit: u8) -> Self
         ensures { λ r. ⌜ r .delayed ≡ delays (self .delayed) (bit ∷ []) ⌝ }
     {
-        let d = self.delayed;
-        ConvEncState {
-            delayed: [bit, d[0], d[1], d[2]],
-        }
+        let delayed = self.delayed;
+        let newer = shifted(delayed, bit);
+        ConvEncState { delayed: newer }
     }
 
     fn encode_from(self, input: &[u8], output: &mut [u8]) -> Self
@@ -195,10 +203,9 @@ impl SpeechConvEncState {
     fn after(self, bit: u8) -> Self
         ensures { λ r. ⌜ r .delayed ≡ delays (self .delayed) (bit ∷ []) ⌝ }
     {
-        let d = self.delayed;
-        SpeechConvEncState {
-            delayed: [bit, d[0], d[1], d[2]],
-        }
+        let delayed = self.delayed;
+        let newer = shifted(delayed, bit);
+        SpeechConvEncState { delayed: newer }
     }
 
     fn encode_from(self, input: &[u8], output: &mut [u8]) -> Self
@@ -244,61 +251,27 @@ impl SpeechConvEncState {
             state: state,
         }
     }
+
+    // The same, of an encoder that is lent: the next call goes on from where this one ends.
+    pub fn encode_lent(&mut self, input: &[u8], output: &mut [u8]) -> Outcome
+        ensures { λ r. ⌜ Encoded speech (now (self .entry) .delayed) (now (input .entry)) (now (output .entry)) r (now (self .exit) .delayed) (now (output .exit)) ⌝ }
+    {
+        let r = (*self).encode(input, output);
+        *self = r.state;
+        r.outcome
+    }
 }
 
-// The modes are 2_3, 1_3, 292_432, 148_432, 112_168, 72_162, 38_80. Each one's P, one after another.
-const P: [usize; 47] = [
-    1,
-    2,
-    5,
-    1,
-    2,
-    3,
-    5,
-    6,
-    7,
-    1,
-    2,
-    5,
-    1,
-    2,
-    3,
-    5,
-    6,
-    7,
-    1,
-    2,
-    4,
-    1,
-    2,
-    3,
-    4,
-    5,
-    7,
-    8,
-    10,
-    11,
-    1,
-    2,
-    3,
-    4,
-    5,
-    7,
-    8,
-    10,
-    11,
-    13,
-    14,
-    16,
-    17,
-    19,
-    20,
-    22,
-    23,
+// P of the modes 2_3, 1_3, 292_432, 148_432, 112_168, 72_162 and 38_80, each filled up with zeros that are not read.
+const P: [[u8; 17]; 7] = [
+    [1, 2, 5, 0, 0, 0, 0, 0, 0, 0, 0, 0, 0, 0, 0, 0, 0],
+    [1, 2, 3, 5, 6, 7, 0, 0, 0, 0, 0, 0, 0, 0, 0, 0, 0],
+    [1, 2, 5, 0, 0, 0, 0, 0, 0, 0, 0, 0, 0, 0, 0, 0, 0],
+    [1, 2, 3, 5, 6, 7, 0, 0, 0, 0, 0, 0, 0, 0, 0, 0, 0],
+    [1, 2, 4, 0, 0, 0, 0, 0, 0, 0, 0, 0, 0, 0, 0, 0, 0],
+    [1, 2, 3, 4, 5, 7, 8, 10, 11, 0, 0, 0, 0, 0, 0, 0, 0],
+    [1, 2, 3, 4, 5, 7, 8, 10, 11, 13, 14, 16, 17, 19, 20, 22, 23],
 ];
-
-// Where each mode's P begins.
-const P_START: [usize; 7] = [0, 3, 9, 12, 18, 21, 30];
 
 const T: [usize; 7] = [3, 6, 3, 6, 3, 9, 17];
 
@@ -308,7 +281,6 @@ const PERIOD: [usize; 7] = [8, 8, 8, 8, 6, 12, 24];
 const RUN: [usize; 7] = [4096, 4096, 65, 35, 4096, 4096, 4096];
 
 struct Puncturer {
-    start: usize,
     t: usize,
     period: usize,
     run: usize,
@@ -328,7 +300,6 @@ fn get_puncturer(mode: u8) -> Puncturer
 {
     let m = mode as usize;
     Puncturer {
-        start: P_START[m],
         t: T[m],
         period: PERIOD[m],
         run: RUN[m],
@@ -346,8 +317,9 @@ fn needed(mode: u8, n: usize) -> usize
     let p = get_puncturer(mode);
     let j = n - 1;
     let x = j + j / p.run;
-    let at = p.start + x % p.t;
-    p.period * (x / p.t) + P[at]
+    let m = mode as usize;
+    let index = x % p.t;
+    p.period * (x / p.t) + P[m][index] as usize
 }
 
 // The place that is by entries of P further on.
@@ -386,6 +358,7 @@ fn puncture(mode: u8, input: &[u8], len: usize, output: &mut [u8])
     ensures { λ _. ⌜ now (output .exit) ≡ written (punctured mode len (now (input .entry))) (now (output .entry)) ⌝ }
 {
     let p = get_puncturer(mode);
+    let m = mode as usize;
     let kept = P;
     let mut at = Kept {
         base: 0,
@@ -394,9 +367,9 @@ fn puncture(mode: u8, input: &[u8], len: usize, output: &mut [u8])
     };
     let mut j: usize = 0;
     while j < len {
-        let entry = p.start + at.index;
-        let place = at.base + kept[entry] - 1;
-        output[j] = input[place];
+        let index = at.index;
+        let from = at.base + kept[m][index] as usize - 1;
+        output[j] = input[from];
         at = next(p, j, at);
         j += 1;
     }
@@ -407,6 +380,7 @@ fn depuncture(mode: u8, input: &[u8], len: usize, output: &mut [u8])
     ensures { λ _. ⌜ now (output .exit) ≡ depunctured mode len (now (input .entry)) (now (output .entry)) ⌝ }
 {
     let p = get_puncturer(mode);
+    let m = mode as usize;
     let kept = P;
     let mut at = Kept {
         base: 0,
@@ -415,9 +389,9 @@ fn depuncture(mode: u8, input: &[u8], len: usize, output: &mut [u8])
     };
     let mut j: usize = 0;
     while j < len {
-        let entry = p.start + at.index;
-        let place = at.base + kept[entry] - 1;
-        output[place] = input[j];
+        let index = at.index;
+        let to = at.base + kept[m][index] as usize - 1;
+        output[to] = input[j];
         at = next(p, j, at);
         j += 1;
     }

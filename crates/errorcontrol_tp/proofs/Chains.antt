@@ -10,8 +10,6 @@ use borrow.Author.Tests.{ltb-false, not-false, le-ltb}
 use borrow.Rule.Slice.PartMut.{putMid}
 use lib.ListN.{length, take, drop, replicate, length-append, length-drop, length-replicate}
 use lib.Seq.{length-take-le, take-all, take-at, drop-at, drop-length, drop-drop}
-use Rattle.base.specs.declared.Outcome.{Outcome}
-use Rattle.base.specs.declared.Outcome.the-variants.{Done}
 use Rattle.base.specs.Refusal.{unless, accepted}
 use Rattle.base.specs.Bits.{Bits, bitsOnly, ERASED}
 use Rattle.base.specs.Places.{written}
@@ -19,12 +17,12 @@ use Rattle.base.proofs.BitLaws.{bits-append}
 use Rattle.base.proofs.Moves.{gather-length, scatter-length, scatter-over}
 use Rattle.base.proofs.Refusals.{passed}
 use Rattle.base.proofs.Lists.{written-whole}
-use Rattle.trellis.specs.Nearest.{encode}
-use Rattle.convenc.specs.Generators.{outputs, speech, held, delays, encodeRefusal, Encoded}
+use Rattle.trellis.specs.Nearest.{encode, after}
+use Rattle.convenc.specs.Generators.{outputs, speech, encodeRefusal, InTurn}
 use Rattle.convenc.specs.Puncturing.{punctured, depunctured, punctureRefusal, depunctureRefusal, keptPlace, needed, position}
-use Rattle.convenc.proofs.Calls.{encode-accepts, puncture-accepts, depuncture-accepts, encodes, two-calls}
-use Rattle.convenc.proofs.Delays.{Four, four-after}
+use Rattle.convenc.proofs.Calls.{encode-accepts, puncture-accepts, depuncture-accepts}
 use Rattle.convenc.proofs.Encoding.{encoded-length}
+use Rattle.trellis.proofs.Encoding.{encode-append}
 use Rattle.convenc.proofs.Modes.{kept-apart, kept-within}
 use Rattle.convenc.proofs.Steps.{kept-first-of, kept-steps}
 use Rattle.tch_reorder.specs.Order.{channelOf, codecOf, codecPlace}
@@ -67,53 +65,28 @@ first-part p z q a b e =
 spare-is : (p z : List ℕ) (a b : ℕ) → length p ≡ a → length z ≡ b → take b (drop a (p ++ z)) ≡ z
 spare-is p z a b e f = ap (take b) (drop-at p z a e) ∙ take-all b z (omega arith)
 
-pub spare-long : (p z : List ℕ) (a b : ℕ) → length p ≡ a → length z ≡ b → length (take b (drop a (p ++ z))) ≡ b
-spare-long p z a b e f = ap length (spare-is p z a b e f) ∙ f
-
 -- ---- the mother code by one encoder
-module _ (channel class2 d d′ p z : List ℕ) (answer : Outcome) (start : d ≡ 0 ∷ 0 ∷ 0 ∷ 0 ∷ []) (long : length channel ≡ 274) (room : length z ≡ 336)
-    (plain : Bits channel) (call : Encoded speech d (take 112 (drop 102 channel)) z answer d′ p) where
+module _ (channel class2 : List ℕ) (long : length channel ≡ 274) (plain : Bits channel) (wide : length class2 ≡ 72) (bits : Bits class2) where
   abbrev first : List ℕ
   first = take 112 (drop 102 channel)
 
   first-long : length first ≡ 112
   first-long = length-take-le 112 (drop 102 channel) (omega (arith, length-drop 102 channel))
 
-  first-plain : Bits first
-  first-plain = bits-take 112 (drop 102 channel) (bits-drop 102 channel plain)
+  pub both-accepted : (room other : ℕ) → 336 ≤ room → 216 ≤ other
+      → (encodeRefusal 3 (0 ∷ 0 ∷ 0 ∷ 0 ∷ []) first room ≡ accepted) × (encodeRefusal 3 (0 ∷ 0 ∷ 0 ∷ 0 ∷ []) class2 other ≡ accepted)
+  both-accepted room other h k = (
+    encode-accepts 3 (replicate 4 0) first room (omega (arith, first-long)) (omega (arith, first-long)) (bits-take 112 (drop 102 channel) (bits-drop 102 channel plain)) (bits-zeros 4),
+    encode-accepts 3 (replicate 4 0) class2 other (omega arith) (omega arith) bits (bits-zeros 4),
+  )
 
-  zeros : Four d
-  zeros = subst Four (sym start) (record { len = refl; bits = bits-zeros 4 })
-
-  done : (answer ≡ Done) × (d′ ≡ delays d first) × (p ≡ written (encode (outputs speech) (held d) first) z)
-  done =
-      encodes speech d first z answer d′ p call
-      (encode-accepts 3 d first (length z) (omega (arith, first-long)) (omega (arith, first-long)) first-plain (zeros .bits))
-
-  encoded-first : length (encode (outputs speech) (held d) first) ≡ 336
-  encoded-first = encoded-length speech (held d) first ∙ ap (λ (n : ℕ). 3 * n) first-long
-
-  pub p-is : p ≡ encode (outputs speech) (held d) first
-  p-is = done .2 ∙ written-whole (encode (outputs speech) (held d) first) z (encoded-first ∙ sym room)
-
-  pub p-long : length p ≡ 336
-  p-long = ap length p-is ∙ encoded-first
-
-  pub mother-is : (q s d″ : List ℕ) (other : Outcome) → length class2 ≡ 72 → Bits class2 → length s ≡ 216 → Encoded speech d′ class2 s other d″ q
-      → p ++ q ≡ encode (outputs speech) 0 (first ++ class2)
-  mother-is q s d″ other e b f call′ =
-      ap₂ (λ (x y : List ℕ). x ++ y) p-is (q-is ∙ ap (λ (x : List ℕ). encode (outputs speech) (held x) class2) (done .1))
-      ∙ two-calls speech d first class2 zeros first-plain
-      ∙ ap (λ (x : List ℕ). encode (outputs speech) (held x) (first ++ class2)) start
-    where
-      after : Four d′
-      after = subst Four (sym (done .1)) (four-after d first zeros first-plain)
-
-      q-is : q ≡ encode (outputs speech) (held d′) class2
-      q-is =
-          encodes speech d′ class2 s other d″ q call′
-          (encode-accepts 3 d′ class2 (length s) (omega arith) (omega arith) b (after .bits)) .2
-          ∙ written-whole (encode (outputs speech) (held d′) class2) s (encoded-length speech (held d′) class2 ∙ ap (λ (n : ℕ). 3 * n) e ∙ sym f)
+  pub mother-is : (x x′ y y′ : List ℕ) → length x ≡ 336 → length y ≡ 216 → InTurn first class2 x x′ y y′
+      → x′ ++ y′ ≡ encode (outputs speech) 0 (first ++ class2)
+  mother-is x x′ y y′ e f call =
+      ap₂ (λ (l m : List ℕ). l ++ m)
+      (call .before ∙ written-whole (encode (outputs speech) 0 first) x (encoded-length speech 0 first ∙ ap (λ (n : ℕ). 3 * n) first-long ∙ sym e))
+      (call .beyond ∙ written-whole (encode (outputs speech) (after 0 first) class2) y (encoded-length speech (after 0 first) class2 ∙ ap (λ (n : ℕ). 3 * n) wide ∙ sym f))
+      ∙ sym (encode-append (outputs speech) 0 first class2)
 
 -- ---- how far the two modes reach
 needed-first : needed 4 168 ≤ 336
@@ -137,7 +110,7 @@ depunctured-into mode n src room q k l h r p =
     made (depunctureRefusal mode n (length src) (length room)) (depunctured mode n src room) room q (depuncture-accepts mode n (length src) (length room) k l h r) p
 
 -- ---- the block that is sent
-module _ (channel mother p q r : List ℕ) (long : length channel ≡ 274) (wide : length mother ≡ 552) (front : p ≡ take 102 (take 102 channel)) where
+module _ (channel one two p q r : List ℕ) (long : length channel ≡ 274) (wide : length one ≡ 336) (wider : length two ≡ 216) (front : p ≡ take 102 (take 102 channel)) where
   front-is : p ≡ take 102 channel
   front-is = front ∙ take-all 102 (take 102 channel) (omega (arith, length-take-le 102 channel (omega arith)))
 
@@ -153,13 +126,12 @@ module _ (channel mother p q r : List ℕ) (long : length channel ≡ 274) (wide
   gap-long : length gap ≡ 168
   gap-long = length-take-le 168 (drop 102 (p ++ replicate 330 0)) (omega (arith, length-drop 102 (p ++ replicate 330 0), front-room))
 
-  module _ (second : q ≡ unless (punctureRefusal 4 168 (length (take 336 mother)) (length gap)) (written (punctured 4 168 (take 336 mother)) gap) gap) where
-    q-is : q ≡ punctured 4 168 (take 336 mother)
-    q-is =
-        punctured-into 4 168 (take 336 mother) gap q (omega arith) (omega arith) (omega (arith, needed-first, length-take-le 336 mother (omega arith))) gap-long second
+  module _ (second : q ≡ unless (punctureRefusal 4 168 (length one) (length gap)) (written (punctured 4 168 one) gap) gap) where
+    q-is : q ≡ punctured 4 168 one
+    q-is = punctured-into 4 168 one gap q (omega arith) (omega arith) (omega (arith, needed-first)) gap-long second
 
     pub q-long : length q ≡ 168
-    q-long = ap length q-is ∙ gather-length (keptPlace 4) 168 (take 336 mother)
+    q-long = ap length q-is ∙ gather-length (keptPlace 4) 168 one
 
     pub then : putMid 102 168 (p ++ replicate 330 0) q ≡ (p ++ q) ++ replicate 162 0
     then = first-part p (replicate 330 0) q 102 168 front-long
@@ -176,16 +148,12 @@ module _ (channel mother p q r : List ℕ) (long : length channel ≡ 274) (wide
     rest-long : length rest ≡ 162
     rest-long = length-take-le 162 (drop 270 (putMid 102 168 (p ++ replicate 330 0) q)) (omega (arith, length-drop 270 (putMid 102 168 (p ++ replicate 330 0) q), then-room))
 
-    behind-long : length (take 216 (drop 336 mother)) ≡ 216
-    behind-long = length-take-le 216 (drop 336 mother) (omega (arith, length-drop 336 mother))
-
-    pub block-made : r ≡ unless (punctureRefusal 5 162 (length (take 216 (drop 336 mother))) (length rest)) (written (punctured 5 162 (take 216 (drop 336 mother))) rest) rest
-        → putMid 270 162 (putMid 102 168 (p ++ replicate 330 0) q) r ≡ take 102 channel ++ (punctured 4 168 (take 336 mother) ++ punctured 5 162 (drop 336 mother))
+    pub block-made : r ≡ unless (punctureRefusal 5 162 (length two) (length rest)) (written (punctured 5 162 two) rest) rest
+        → putMid 270 162 (putMid 102 168 (p ++ replicate 330 0) q) r ≡ take 102 channel ++ (punctured 4 168 one ++ punctured 5 162 two)
     block-made third =
         ap (λ (x : List ℕ). putMid 270 162 x r) then ∙ two-parts (p ++ q) (replicate 162 0) r 270 162 both-long refl
         ∙ append-assoc p q r ∙ ap₂ (λ (x y : List ℕ). x ++ y) front-is (ap₂ (λ (x y : List ℕ). x ++ y) q-is
-        (punctured-into 5 162 (take 216 (drop 336 mother)) rest r (omega arith) (omega arith) (omega (arith, needed-second, behind-long)) rest-long third
-        ∙ ap (punctured 5 162) (take-all 216 (drop 336 mother) (omega (arith, length-drop 336 mother)))))
+        (punctured-into 5 162 two rest r (omega arith) (omega arith) (omega (arith, needed-second)) rest-long third))
 
 -- ---- the mother symbols of a received block
 module _ (block p q : List ℕ) (long : length block ≡ 432)
@@ -239,14 +207,17 @@ word-joined channel class2 e =
     bits : List ℕ
     bits = take 60 (drop 214 channel)
 
-pub block-is : (channel class2 mother block : List ℕ) → class2 ≡ take 60 (drop 214 channel) ++ speechCheck (take 60 (drop 214 channel)) ++ replicate 4 0
-    → mother ≡ encode (outputs speech) 0 (take 112 (drop 102 channel) ++ class2)
-    → block ≡ take 102 channel ++ (punctured 4 168 (take 336 mother) ++ punctured 5 162 (drop 336 mother))
+pub block-is : (channel class2 one two block : List ℕ) → length one ≡ 336 → class2 ≡ take 60 (drop 214 channel) ++ speechCheck (take 60 (drop 214 channel)) ++ replicate 4 0
+    → one ++ two ≡ encode (outputs speech) 0 (take 112 (drop 102 channel) ++ class2)
+    → block ≡ take 102 channel ++ (punctured 4 168 one ++ punctured 5 162 two)
     → block ≡ uncoded channel ++ codedOf (speechWord channel)
 unfolding codedOf
-block-is channel class2 mother block e f g =
-    g ∙ ap (λ (l : List ℕ). take 102 channel ++ (punctured 4 168 (take 336 l) ++ punctured 5 162 (drop 336 l)))
-    (f ∙ ap (encode (outputs speech) 0) (word-joined channel class2 e))
+block-is channel class2 one two block l e f g =
+    g ∙ ap₂ (λ (x y : List ℕ). take 102 channel ++ (punctured 4 168 x ++ punctured 5 162 y))
+    (sym (take-at one two 336 l) ∙ ap (take 336) joined) (sym (drop-at one two 336 l) ∙ ap (drop 336) joined)
+  where
+    joined : one ++ two ≡ encode (outputs speech) 0 (speechWord channel)
+    joined = f ∙ ap (encode (outputs speech) 0) (word-joined channel class2 e)
 
 -- ---- what no refusal says
 pub record SendAccepted (count : ℕ) (codec : List ℕ) (air : ℕ) : Type 0 where
@@ -287,14 +258,14 @@ codec-over channel codec h =
     scatter-over codecPlace 274 channel (replicate 274 0) codec codec-apart codec-within codec-onto (length-replicate {A = ℕ} 274 0) h
 
 -- ---- the slot that is sent
-pub slot-is : (start : ℕ) (codec channel class2 mother block air : List ℕ) → channel ≡ channelOf codec
+pub slot-is : (start : ℕ) (codec channel class2 one two block air : List ℕ) → length one ≡ 336 → channel ≡ channelOf codec
     → class2 ≡ take 60 (drop 214 channel) ++ speechCheck (take 60 (drop 214 channel)) ++ replicate 4 0
-    → mother ≡ encode (outputs speech) 0 (take 112 (drop 102 channel) ++ class2)
-    → block ≡ take 102 channel ++ (punctured 4 168 (take 336 mother) ++ punctured 5 162 (drop 336 mother))
+    → one ++ two ≡ encode (outputs speech) 0 (take 112 (drop 102 channel) ++ class2)
+    → block ≡ take 102 channel ++ (punctured 4 168 one ++ punctured 5 162 two)
     → air ≡ onAir start block → air ≡ slot start codec
 unfolding slot
-slot-is start codec channel class2 mother block air c e f g h =
-    h ∙ ap (onAir start) (block-is channel class2 mother block e f g) ∙ ap (λ (l : List ℕ). onAir start (uncoded l ++ codedOf (speechWord l))) c
+slot-is start codec channel class2 one two block air l c e f g h =
+    h ∙ ap (onAir start) (block-is channel class2 one two block l e f g) ∙ ap (λ (x : List ℕ). onAir start (uncoded x ++ codedOf (speechWord x))) c
 
 pub slot-long : (start : ℕ) (codec : List ℕ) → length (slot start codec) ≡ 432
 unfolding slot

@@ -19,7 +19,6 @@ use base::Counts;
 use base::Outcome;
 use base::Received;
 use base::inner::copy;
-use convenc::SpeechConvEncState;
 use viterbi::Decoded;
 
 // Which refusal sending owes, 0 for none.
@@ -76,26 +75,31 @@ fn class2_bits(channel: [u8; 274]) -> [u8; 72]
     word
 }
 
-// The mother code of both classes, by one encoder that is not reset between them.
-fn mother_bits(channel: [u8; 274], class2: [u8; 72]) -> [u8; 552]
+// The mother code of a slot's word: the outputs of its first 112 bits, and those of the other 72.
+struct Mothers {
+    first: [u8; 336],
+    second: [u8; 216],
+}
+
+// Both classes by one encoder, lent to two calls and not reset between them.
+fn mother_bits(channel: [u8; 274], class2: [u8; 72]) -> Mothers
     requires { ⌜ Bits channel × Bits class2 ⌝ }
-    ensures { λ r. ⌜ r ≡ encode (outputs speech) 0 (take 112 (drop 102 channel) ++ class2) ⌝ }
+    ensures { λ r. ⌜ r .first ++ r .second ≡ encode (outputs speech) 0 (take 112 (drop 102 channel) ++ class2) ⌝ }
 {
-    let mut mother = [0u8; 552];
-    let first = SpeechConvEncState::new().encode(&channel[102..214], &mut mother[0..336]);
-    let state = first.state;
-    state.encode(&class2, &mut mother[336..552]);
-    mother
+    let mut first = [0u8; 336];
+    let mut second = [0u8; 216];
+    convenc::inner::encode_both(&channel[102..214], &class2, &mut first, &mut second);
+    Mothers { first, second }
 }
 
 // The block that is sent: uncoded bits, then what the two modes keep of the mother code.
-fn block_bits(channel: [u8; 274], mother: [u8; 552]) -> [u8; 432]
-    ensures { λ r. ⌜ r ≡ take 102 channel ++ (punctured 4 168 (take 336 mother) ++ punctured 5 162 (drop 336 mother)) ⌝ }
+fn block_bits(channel: [u8; 274], first: [u8; 336], second: [u8; 216]) -> [u8; 432]
+    ensures { λ r. ⌜ r ≡ take 102 channel ++ (punctured 4 168 first ++ punctured 5 162 second) ⌝ }
 {
     let mut block = [0u8; 432];
     copy(&channel[0..102], &mut block[0..102]);
-    convenc::get_punctured_rate(4, &mother[0..336], 168, &mut block[102..270]);
-    convenc::get_punctured_rate(5, &mother[336..552], 162, &mut block[270..432]);
+    convenc::get_punctured_rate(4, &first, 168, &mut block[102..270]);
+    convenc::get_punctured_rate(5, &second, 162, &mut block[270..432]);
     block
 }
 
@@ -229,8 +233,10 @@ fn slot_bits(start: u32, codec: &[u8]) -> [u8; 432]
     ensures { λ r. ⌜ r ≡ slot start (now (codec .entry)) ⌝ }
 {
     let channel = channel_bits(codec);
-    let mother = mother_bits(channel, class2_bits(channel));
-    air_bits(start, block_bits(channel, mother))
+    let mothers = mother_bits(channel, class2_bits(channel));
+    let first = mothers.first;
+    let second = mothers.second;
+    air_bits(start, block_bits(channel, first, second))
 }
 
 // ---- the entries

@@ -15,7 +15,7 @@ use Rattle.base.proofs.Moves.{Onto, gather-length, gather-same, scatter-same, g
 use Rattle.interleaver.specs.Interleaving.{place, shared, blockRefusal, interleaved, deinterleaved}
 use Rattle.interleaver.specs.Walk.{onward, walk, Ready}
 use Rattle.base.proofs.Refusals.{passed}
-use Rattle.interleaver.proofs.Fronts.{scatter-written}
+use Rattle.base.proofs.Moves.{scatter-written}
 use Rattle.interleaver.proofs.Divisors.{shared-by, only-one}
 use Rattle.interleaver.proofs.Inverse.{Inverse, inverse}
 use Rattle.interleaver.proofs.Walk.{walk-along}

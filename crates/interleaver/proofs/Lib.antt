@@ -1,4 +1,3 @@
-pub mod Fronts
 pub mod Divisors
 pub mod Inverse
 pub mod Walk

@@ -16,7 +16,7 @@ use Rattle.base.proofs.Moves.{Onto, gather-same, scatter-same, gather-scatter, 
 use Rattle.interleaver.specs.Interleaving.{turned, matrixRefusal, matrixInterleaved, matrixDeinterleaved}
 use Rattle.interleaver.specs.Walk.{onward, walk, Ready}
 use Rattle.base.proofs.Refusals.{passed}
-use Rattle.interleaver.proofs.Fronts.{scatter-written}
+use Rattle.base.proofs.Moves.{scatter-written}
 use Rattle.interleaver.proofs.Walk.{walk-along}
 
 -- ---- what no refusal says

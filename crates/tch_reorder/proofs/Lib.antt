@@ -1,3 +1,2 @@
-pub mod Fronts
 pub mod Permutation
 pub mod Laws

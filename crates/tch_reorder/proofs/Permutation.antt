@@ -12,7 +12,7 @@ use Rattle.base.specs.Bits.{both}
 use Rattle.base.specs.Places.{written, Apart, Within}
 use Rattle.base.proofs.Moves.{Onto, gather-length, gather-scatter, scatter-gather}
 use Rattle.base.proofs.Table.{at, both-left, both-right}
-use Rattle.tch_reorder.proofs.Fronts.{scatter-written}
+use Rattle.base.proofs.Moves.{scatter-written}
 use Rattle.tch_reorder.specs.Order.{class0, class1, class2, order, codecPlace, channelOf, codecOf}
 
 -- ---- the tables

@@ -1,7 +1,7 @@
 -- The scores of two states are never further apart than four steps can cost, from the fourth step on.
 -- Assumes nothing.
 use mathlib.Core.Path.{_≡_, ap, _∙_, subst}
-use mathlib.Core.List.{List, [], _∷_}
+use mathlib.Core.List.{List, _∷_}
 use Prim.Native.Nat.{ℕ, _+_, _*_, _/_, _%_, _≤_, _<_}
 use native.Mathlib.Omega.{arith}
 use Rattle.trellis.specs.Trellis.{before, metric, choice, Bounded}

@@ -2,16 +2,16 @@
 -- and tells the newest bit from the state, the word follows step by step.
 -- Assumes nothing.
 use mathlib.Core.Path.{_≡_, refl, sym, ap, ap₂, _∙_, subst}
-use mathlib.Core.List.{List, [], _∷_, _++_}
+use mathlib.Core.List.{List, [], _∷_}
 use Prim.Native.Nat.{ℕ, zero, suc, _+_, _*_, _/_, _≤_, _<_}
 use native.Mathlib.Nat.{mul-suc, mul-zero}
 use native.Mathlib.Omega.{arith}
-use lib.ListN.{length, take, drop, getD, length-drop, take-append-drop}
-use lib.Seq.{length-take-le, getD-take, getD-drop}
+use lib.ListN.{length, drop, getD, length-drop}
+use lib.Seq.{getD-drop}
 use Rattle.base.specs.Bits.{Bits}
 use Rattle.base.proofs.BitLaws.{bits-at}
 use Rattle.trellis.specs.Nearest.{encode, distance, nearest, Candidate}
-use Rattle.trellis.proofs.Encoding.{distance-append}
+use Rattle.trellis.proofs.Encoding.{distance-split}
 use Rattle.trellis.proofs.Winners.{sole-zero}
 
 first-zero : {A : Type 0} (m : A → ℕ → ℕ) (r : List A) (y : List ℕ) (d : A) → 0 < length r → 0 < length y → distance m r y ≡ 0 → m (getD r 0 d) (getD y 0 0) ≡ 0
@@ -28,14 +28,8 @@ module _ {A : Type 0} (m : A → ℕ → ℕ) (d : A) (Known : A → Type 0)
       → (m (getD r 0 d) (getD (out (16 * b + s)) 0 0) ≡ 0) × (distance m (drop k r) (encode out (8 * b + s / 2) w) ≡ 0)
   splits r s b w h e =
       let x = 16 * b + s in
-      let y = encode out (8 * b + s / 2) w in
-      let l = length-take-le k r h in
-      let j = distance-append m (take k r) (drop k r) (out x) y (l ∙ sym (wide x)) in
-      let i = ap (λ (q : List A). distance m q (out x ++ y)) (take-append-drop k r) in (
-        ap (λ (a : A). m a (getD (out x) 0 0)) (sym (getD-take k r 0 d some))
-            ∙ first-zero m (take k r) (out x) d (omega arith) (omega (arith, wide x)) (omega arith),
-        omega arith,
-      )
+      let j = distance-split m r k (out x) (encode out (8 * b + s / 2) w) h (wide x) in
+      (first-zero m r (out x) d (omega arith) (omega (arith, wide x)) (omega arith), omega arith)
 
   -- two words at distance 0 from the same state are one
   pub told-apart : (n s : ℕ) (w v : List ℕ) (r : List A) → s < 16 → length w ≡ n → length v ≡ n → Bits w → Bits v → k * n ≤ length r

@@ -8,7 +8,7 @@ use Prim.Native.Nat.{ℕ, zero, suc, _+_, _*_, _≤_, _<_}
 use native.Mathlib.Omega.{arith}
 use lib.Dec.{ltb}
 use borrow.Author.Tests.{ltb-true, ltb-false}
-use lib.ListN.{length, replicate, length-reverse, length-replicate}
+use lib.ListN.{length, replicate, length-reverse}
 use Rattle.base.specs.Bits.{Bits}
 use Rattle.trellis.specs.Nearest.{encode, distance, candidates, firstLeast, nearest, Lex, Candidate, Before, Winner}
 use Rattle.trellis.specs.Toward.{Toward}

@@ -1,31 +1,29 @@
 -- The parts put together: the word, its count, and what is left in target and trellis.
 -- Assumes nothing.
-use mathlib.Core.Path.{_≡_, refl, sym, ap, ap₂, _∙_, subst}
+use mathlib.Core.Path.{_≡_, refl, sym, ap, _∙_}
 use mathlib.Core.List.{List, [], _∷_, _++_, reverse}
 use Prim.Native.Nat.{ℕ, zero, suc, _+_, _*_, _/_, _%_, _^_, _-_, _≤_, _<_}
 use native.Mathlib.Omega.{arith}
 use lib.IntN.{ℤ, pos, negsuc}
 use lib.Signed.{mag}
-use lib.ListN.{length, getD, take, drop, replicate, length-drop, length-take}
+use lib.ListN.{length, getD, take, drop, replicate, length-drop}
 use lib.Seq.{ext-getD, getD-drop}
 use mir.Syntax.{w16}
 use mir.Val.{toZ, ofZ}
-use Rattle.base.specs.Refusal.{unless}
-use Rattle.base.specs.Bits.{Bits, disagrees, known}
+use Rattle.base.specs.Bits.{disagrees, known}
 use Rattle.base.specs.Places.{written}
 use Rattle.base.proofs.BitLaws.{known-le}
 use Rattle.base.proofs.Lists.{tabulate-length}
-use Rattle.trellis.specs.Nearest.{encode, distance, total, nearest, Candidate}
-use Rattle.trellis.specs.Trellis.{before, metric, choice, trace, begin, branch, steps, decode}
+use Rattle.trellis.specs.Nearest.{encode, distance, total, Candidate}
+use Rattle.trellis.specs.Trellis.{before, metric, choice, trace, begin, branch, decode}
 use Rattle.trellis.proofs.Start.{starts-at-zero}
 use Rattle.trellis.proofs.Encoding.{Each, distance-most, distance-take, encode-length, encode-same}
-use Rattle.trellis.proofs.Winners.{nearest-same, nearest-wins, nearest-length}
+use Rattle.trellis.proofs.Winners.{nearest-same, nearest-wins}
 use Rattle.trellis.proofs.Decoder.{steps-bounded, decode-nearest, decode-distance}
 use Rattle.convenc.specs.Generators.{outputs}
-use Rattle.viterbi.specs.declared.Decoded.{Decoded}
 use Rattle.viterbi.specs.declared.Decoded.the-variants.{Word, Refused}
-use Rattle.viterbi.specs.Decoding.{disagreements, decoded, decodeRefusal, answer, cleared, Decodes}
-use Rattle.viterbi.specs.Scores.{down, Stands, bitOf, signAt, Table, told, Tells, handicap, received, Forward, walk, walkEnd, Back}
+use Rattle.viterbi.specs.Decoding.{disagreements, decoded, decodeRefusal, cleared, Decodes}
+use Rattle.viterbi.specs.Scores.{down, Marks, Stands, Table, told, Tells, handicap, received, Forward, walk, walkEnd, Back}
 use Rattle.viterbi.proofs.Signed.{reads}
 use Rattle.viterbi.proofs.Windows.{told-bits}
 use Rattle.viterbi.proofs.Counts.{total-le, each-known}
@@ -50,20 +48,20 @@ refused code n src target trellis (suc number) h e = record { answers = rw (← 
 -- ---- the walk over the choices is the trellis's own
 module _ (k : ℕ) (t : List (List ℤ)) (src trellis : List ℕ) where
   abbrev Chosen : ℕ → Type 0
-  Chosen n = (i s : ℕ) → i < n → s < 16 → getD trellis i 0 / 2 ^ s % 2 ≡ choice handicap (branch disagrees (told k t) k src i) (received k t src i) s
+  Chosen n = (i : ℕ) → i < n → Marks (choice handicap (branch disagrees (told k t) k src i) (received k t src i)) (getD trellis i 0)
 
   walk-is : (n s : ℕ) → s < 16 → Chosen n → walk trellis n s ≡ trace handicap (received k t src n) s
   walk-is zero s h d = refl
   walk-is (suc n) s h d =
       ap (λ (l : List ℕ). s / 8 ∷ l)
-      (walk-is n (before (getD trellis n 0 / 2 ^ s % 2) s) (omega arith) (λ i x p q. d i x (omega arith) q)
-      ∙ ap (λ (y : ℕ). trace handicap (received k t src n) (before y s)) (d n s (omega arith) h))
+      (walk-is n (before (getD trellis n 0 / 2 ^ s % 2) s) (omega arith) (λ i p. d i (omega arith))
+      ∙ ap (λ (y : ℕ). trace handicap (received k t src n) (before y s)) (d n (omega arith) s h))
 
   end-is : (n s : ℕ) → s < 16 → Chosen n → walkEnd trellis n s ≡ begin handicap (received k t src n) s
   end-is zero s h d = refl
   end-is (suc n) s h d =
-      end-is n (before (getD trellis n 0 / 2 ^ s % 2) s) (omega arith) (λ i x p q. d i x (omega arith) q)
-      ∙ ap (λ (y : ℕ). begin handicap (received k t src n) (before y s)) (d n s (omega arith) h)
+      end-is n (before (getD trellis n 0 / 2 ^ s % 2) s) (omega arith) (λ i p. d i (omega arith))
+      ∙ ap (λ (y : ℕ). begin handicap (received k t src n) (before y s)) (d n (omega arith) s h)
 
 -- ---- the walk ends in state 0
 others : (s : ℕ) → 0 < s → 4 * 4 < handicap s

@@ -2,12 +2,11 @@
 -- Assumes nothing.
 use mathlib.Core.Path.{_≡_, refl, ap}
 use mathlib.Core.List.{List, [], _∷_}
-use Prim.Native.Nat.{ℕ, suc, _%_, _<_}
+use Prim.Native.Nat.{ℕ, suc, _<_}
 use native.Mathlib.Omega.{arith}
 use lib.ListN.{length}
 use Rattle.base.specs.Bits.{Bits}
-use Rattle.base.specs.Digits.{digits}
-use Rattle.convenc.specs.Generators.{dot, tapped, outputs}
+use Rattle.convenc.specs.Generators.{tapped, outputs}
 
 pub outputs-length : (code : List (List ℕ)) (x : ℕ) → length (outputs code x) ≡ length code
 outputs-length [] x = refl

@@ -1,12 +1,12 @@
 -- Sums over the symbols, and the cost that a score stands for.
 -- Assumes nothing.
-use mathlib.Core.Path.{_≡_, refl, sym, ap, ap₂, _∙_, subst⁻¹}
+use mathlib.Core.Path.{_≡_, refl, ap, ap₂, _∙_, subst⁻¹}
 use mathlib.Core.List.{List, [], _∷_, _++_}
-use Prim.Native.Nat.{ℕ, zero, suc, _+_, _*_, _/_, _-_, _≤_, _<_}
+use Prim.Native.Nat.{ℕ, zero, suc, _+_, _/_, _-_, _≤_, _<_}
 use native.Mathlib.Omega.{arith}
 use native.Mathlib.Numerals.{add-one}
 use lib.Dec.{T}
-use lib.IntN.{ℤ, pos, negsuc, _+ℤ_, natAbs}
+use lib.IntN.{ℤ, pos, _+ℤ_, natAbs}
 use lib.Signed.{mag, nonNeg}
 use lib.ListN.{length, getD, take, drop}
 use lib.Seq.{take-suc, take-add}

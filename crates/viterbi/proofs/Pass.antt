@@ -1,14 +1,13 @@
 -- The pass over the symbols: before the first step, and one step more.
 -- Assumes nothing.
-use mathlib.Core.Path.{_≡_, refl, sym, ap, ap₂, _∙_, subst, subst⁻¹}
-use mathlib.Core.List.{List, [], _∷_}
+use mathlib.Core.Path.{_≡_, refl, ap, _∙_, subst⁻¹}
+use mathlib.Core.List.{List, []}
 use Prim.Native.Nat.{ℕ, zero, suc, _+_, _*_, _/_, _%_, _^_, _≤_, _<_}
 use native.Mathlib.Nat.{mul-suc, mul-zero, mul-le-mul-left}
 use native.Mathlib.Omega.{arith}
 use native.Mathlib.Numerals.{add-one}
 use borrow.Author.Count.{below-more}
 use lib.IntN.{ℤ, pos}
-use lib.Signed.{mag}
 use lib.ListN.{length, getD, take, drop, set, replicate, length-set, length-take, getD-replicate}
 use lib.Seq.{getD-set-same, getD-set-other}
 use Rattle.base.specs.Bits.{disagrees, known}
@@ -16,9 +15,8 @@ use Rattle.base.proofs.BitLaws.{known-le}
 use Rattle.trellis.specs.Nearest.{total}
 use Rattle.trellis.specs.Trellis.{before, metric, choice, branch}
 use Rattle.trellis.proofs.Paths.{lesser-left}
-use Rattle.viterbi.specs.Scores.{Stands, Small, Table, told, branchOf, into, better, oldest, Turned, handicap, received, Forward}
+use Rattle.viterbi.specs.Scores.{Holds, Marks, Rows, Stands, Small, Table, told, branchOf, firstWay, secondWay, better, oldest, Turned, handicap, received, Forward}
 use Rattle.viterbi.proofs.Signed.{mag-of}
-use Rattle.viterbi.proofs.Branches.{branch-small}
 use Rattle.viterbi.proofs.Windows.{branch-stands, branch-other}
 use Rattle.viterbi.proofs.Ways.{way-stands}
 use Rattle.viterbi.proofs.Counts.{total-add, total-le}
@@ -71,14 +69,14 @@ module _ (k : ℕ) (t : List (List ℤ)) (table : Table k t) (src : List ℕ) wh
       (omega (arith, ap (λ (j : ℕ). total known (take j src)) (mul-zero k)))
 
   pub forward-none : (was : List ℕ) → Forward k t src 0 (set (replicate 16 (pos 4096)) 0 (pos 0)) was was
-  forward-none was = record { scores = first-scores; choices = λ i s h. absurd (omega arith); long = refl; rest = λ i h. refl }
+  forward-none was = record { scores = first-scores; choices = λ i h. absurd (omega arith); long = refl; rest = λ i h. refl }
 
   -- ---- one step more
   module _ (i : ℕ) (room : k * i + k ≤ length src) (m b new : List ℤ) (was now : List ℕ) (taken : ℕ) (f : Forward k t src i m was now)
-      (br : (s : ℕ) → s < 16 → getD b s (pos 0) ≡ branchOf t k src (k * i) s) (tu : Turned m b new taken) where
+      (br : Holds (branchOf t k src (k * i)) b) (tu : Turned m b new taken) where
     at-state : (s : ℕ) → s < 16
-        → Stands (into better m b s) (metric handicap (received k t src (suc i)) s) (knowns (suc i))
-        × (into oldest m b s ≡ choice handicap (branch disagrees (told k t) k src i) (received k t src i) s)
+        → Stands (better (firstWay m b s) (secondWay m b s)) (metric handicap (received k t src (suc i)) s) (knowns (suc i))
+        × (oldest (firstWay m b s) (secondWay m b s) ≡ choice handicap (branch disagrees (told k t) k src i) (received k t src i) s)
     at-state s h =
         rw (knowns-more i)
         (way-stands (getD m (before 0 s) (pos 0)) (getD m (before 1 s) (pos 0)) (getD b s (pos 0))
@@ -93,12 +91,29 @@ module _ (k : ℕ) (t : List (List ℤ)) (table : Table k t) (src : List ℕ) wh
     forward-more hi =
         subst⁻¹ (λ (j : ℕ). Forward k t src j new was (set now i taken)) (add-one i)
         (record {
-          scores = λ s h. subst⁻¹ (λ (z : ℤ). Stands z (metric handicap (received k t src (suc i)) s) (knowns (suc i))) (tu .score s h) (at-state s h .0);
-          choices = λ j s l h. below-more
-              (λ (j : ℕ). (s : ℕ) → s < 16 → getD (set now i taken) j 0 / 2 ^ s % 2 ≡ choice handicap (branch disagrees (told k t) k src j) (received k t src j) s) i
-              (λ j l s h. ap (λ (x : ℕ). x / 2 ^ s % 2) (getD-set-other now i j taken 0 (omega arith)) ∙ f .choices j s l h)
-              (λ s h. ap (λ (x : ℕ). x / 2 ^ s % 2) (getD-set-same now i taken 0 hi) ∙ tu .bit s h ∙ at-state s h .1)
-              j (omega arith) s h;
+          scores = λ s h. subst⁻¹ (λ (z : ℤ). Stands z (metric handicap (received k t src (suc i)) s) (knowns (suc i))) (tu .scores s h) (at-state s h .0);
+          choices = λ j l. below-more (λ (j : ℕ). Marks (choice handicap (branch disagrees (told k t) k src j) (received k t src j)) (getD (set now i taken) j 0)) i
+              (λ j l s h. ap (λ (x : ℕ). x / 2 ^ s % 2) (getD-set-other now i j taken 0 (omega arith)) ∙ f .choices j l s h)
+              (λ s h. ap (λ (x : ℕ). x / 2 ^ s % 2) (getD-set-same now i taken 0 hi) ∙ tu .bits s h ∙ at-state s h .1)
+              j (omega arith);
           long = length-set now i taken ∙ f .long;
           rest = λ j h. getD-set-other now i j taken 0 (omega arith) ∙ f .rest j (omega arith);
         })
+
+-- ---- the same over every table that the rows are of
+abbrev pub RowsOf : List (List ℤ) → List (List ℤ) → List (List ℤ) → List (List ℤ) → List (List ℤ) → Type 0
+RowsOf t a b c d = Rows (getD t 0 []) a × Rows (getD t 1 []) b × Rows (getD t 2 []) c × Rows (getD t 3 []) d
+
+module _ (k : ℕ) (a b c d : List (List ℤ)) (src : List ℕ) where
+  abbrev pub Passed : ℕ → List ℤ → List ℕ → List ℕ → Type 0
+  Passed i m was now = (t : List (List ℤ)) → Table k t → RowsOf t a b c d → Forward k t src i m was now
+
+  pub passed-none : (was : List ℕ) → Passed 0 (set (replicate 16 (pos 4096)) 0 (pos 0)) was was
+  passed-none was t table r = forward-none k t table src was
+
+  pub passed-more : (i at : ℕ) → at ≡ k * i → k * i + k ≤ length src → (m bs new : List ℤ) (was now : List ℕ) (taken : ℕ) → Passed i m was now
+      → ((t : List (List ℤ)) → Rows (getD t 0 []) a → Rows (getD t 1 []) b → Rows (getD t 2 []) c → Rows (getD t 3 []) d → Holds (branchOf t k src at) bs)
+      → Turned m bs new taken → i < length now → Passed (i + 1) new was (set now i taken)
+  passed-more i at e room m bs new was now taken p br tu hi t table r =
+      forward-more k t table src i room m bs new was now taken (p t table r)
+      (λ s h. br t (r .0) (r .1) (r .2) (r .3) s h ∙ ap (λ (x : ℕ). branchOf t k src x s) e) tu hi

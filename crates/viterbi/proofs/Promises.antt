@@ -1,16 +1,16 @@
 -- What the decoded word and its count promise a reader, for every code of generators.
 -- Assumes nothing.
-use mathlib.Core.Path.{_≡_, refl, sym, ap, ap₂, _∙_, subst}
+use mathlib.Core.Path.{_≡_, refl, sym, ap, _∙_, subst}
 use mathlib.Core.List.{List, [], _∷_}
 use mathlib.Core.Logic.{_⊎_, inl, inr, ⊎-elim}
-use Prim.Native.Nat.{ℕ, zero, suc, _+_, _*_, _/_, _%_, _^_, _≤_, _<_}
+use Prim.Native.Nat.{ℕ, zero, suc, _+_, _*_, _/_, _%_, _≤_, _<_}
 use native.Mathlib.Nat.{mul-suc, mul-le-mul-left}
 use native.Mathlib.Omega.{arith}
-use lib.ListN.{length, getD, take, length-take}
+use lib.ListN.{length, getD}
 use lib.Seq.{getD-take, length-take-le}
 use Rattle.base.specs.Bits.{Bits, disagrees, known}
 use Rattle.base.specs.Digits.{digits}
-use Rattle.trellis.specs.Nearest.{encode, distance, total, nearest, Candidate, Winner}
+use Rattle.trellis.specs.Nearest.{encode, Candidate, Winner}
 use Rattle.trellis.specs.Toward.{Toward}
 use Rattle.trellis.proofs.Encoding.{distance-most, encode-bits}
 use Rattle.trellis.proofs.Winners.{nearest-wins, winner-nearest, steady}

@@ -1,14 +1,14 @@
 -- Loops over the sixteen states: an array whose entry s is written at turn s, and a number whose digit s is put on top at turn s.
 -- Assumes nothing.
-use mathlib.Core.Path.{_≡_, refl, sym, ap, _∙_}
+use mathlib.Core.Path.{_≡_, sym, ap, _∙_, subst⁻¹}
 use mathlib.Core.List.{List}
-use Prim.Native.Nat.{ℕ, zero, suc, _+_, _*_, _/_, _%_, _^_, _≤_, _<_}
+use Prim.Native.Nat.{ℕ, zero, suc, _+_, _*_, _/_, _%_, _^_, _<_}
 use native.Mathlib.Nat.{div-div-eq-div-mul, pow-succ', div-one}
 use native.Mathlib.Numerals.{add-one}
 use native.Mathlib.Omega.{arith}
 use borrow.Author.Count.{below-more}
 use lib.Bits.{bitOr, block-half, block-odd, or-shifted-r}
-use lib.Pow.{high, shl-exact}
+use lib.Pow.{high}
 use lib.Arith.{digits-lt}
 use lib.IntN.{ℤ, pos}
 use lib.ListN.{length, getD, set}
@@ -36,16 +36,21 @@ digit-low a (suc s) t (suc k) h =
 digit-top : (a s t : ℕ) → a < 2 → t < 2 ^ s → (a * 2 ^ s + t) / 2 ^ s % 2 ≡ a
 digit-top a s t h k = ap (λ (x : ℕ). x % 2) (high a s k) ∙ omega arith
 
--- `t | a << s`, at 16 bits
-put-top : (a s t : ℕ) → a < 2 → s < 16 → t < 2 ^ s → bitOr t (a * 2 ^ s % 65536) ≡ a * 2 ^ s + t
-put-top a s t h k l = ap (bitOr t) (shl-exact 1 s 16 h (omega arith)) ∙ or-shifted-r a s t l
+-- the digits below s are those of f, and there are no others
+abbrev pub MarkedTo : (ℕ → ℕ) → ℕ → ℕ → Type 0
+MarkedTo f s n = (n < 2 ^ s) × ((j : ℕ) → j < s → n / 2 ^ j % 2 ≡ f j)
 
-pub put-lt : (a s t : ℕ) → a < 2 → s < 16 → t < 2 ^ s → bitOr t (a * 2 ^ s % 65536) < 2 ^ (s + 1)
-put-lt a s t h k l = rw (put-top a s t h k l, add-one, pow-succ' 2 s) (digits-lt h l)
+mark : (f : ℕ → ℕ) (s t a : ℕ) → a < 2 → MarkedTo f s t → a ≡ f s → MarkedTo f (s + 1) (a * 2 ^ s + t)
+mark f s t a h m here = (
+  rw (add-one, pow-succ' 2 s) (digits-lt h (m .0)),
+  below-more (λ (j : ℕ). (a * 2 ^ s + t) / 2 ^ j % 2 ≡ f j) s (λ j l. digit-low a s t j l ∙ m .1 j l) (digit-top a s t h (m .0) ∙ here),
+)
 
-pub put-more : (f : ℕ → ℕ) (s t a : ℕ) → a < 2 → s < 16 → t < 2 ^ s → ((j : ℕ) → j < s → t / 2 ^ j % 2 ≡ f j) → a ≡ f s
-    → (j : ℕ) → j < s + 1 → bitOr t (a * 2 ^ s % 65536) / 2 ^ j % 2 ≡ f j
-put-more f s t a h k l all here =
-    below-more (λ (j : ℕ). bitOr t (a * 2 ^ s % 65536) / 2 ^ j % 2 ≡ f j) s
-    (λ j m. ap (λ (x : ℕ). x / 2 ^ j % 2) (put-top a s t h k l) ∙ digit-low a s t j m ∙ all j m)
-    (ap (λ (x : ℕ). x / 2 ^ s % 2) (put-top a s t h k l) ∙ digit-top a s t h l ∙ here)
+-- a 1 on top, by `|` with its power of two
+pub mark-one : (f : ℕ → ℕ) (s t x n : ℕ) → x ≡ 2 ^ s → n ≡ bitOr t x → MarkedTo f s t → 1 ≡ f s → MarkedTo f (s + 1) n
+mark-one f s t x n e q m here =
+    subst⁻¹ (MarkedTo f (s + 1)) (q ∙ ap (bitOr t) (e ∙ omega arith) ∙ or-shifted-r 1 s t (m .0)) (mark f s t 1 (omega arith) m here)
+
+-- a 0 on top
+pub mark-nought : (f : ℕ → ℕ) (s t n : ℕ) → n ≡ t → MarkedTo f s t → 0 ≡ f s → MarkedTo f (s + 1) n
+mark-nought f s t n q m here = subst⁻¹ (MarkedTo f (s + 1)) (q ∙ omega arith) (mark f s t 0 (omega arith) m here)

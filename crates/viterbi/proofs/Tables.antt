@@ -4,17 +4,17 @@ use mathlib.Core.Path.{_≡_, refl, ap, ap₂}
 use mathlib.Core.Bool.{Bool, true, false, cond}
 use mathlib.Core.List.{List, [], _∷_, _++_, map}
 use mathlib.Core.Logic.{inl, inr}
-use Prim.Native.Nat.{ℕ, zero, suc, _*_, _≤_, _<_}
+use Prim.Native.Nat.{ℕ, zero, suc, _*_, _^_, _<_}
 use native.Mathlib.Omega.{arith}
 use lib.Dec.{T, eqb, ltb, eqb→eq}
 use borrow.Author.Tests.{le-ltb}
 use lib.IntN.{ℤ, pos, negsuc}
-use lib.ListN.{length, replicate}
+use lib.ListN.{length, getD, replicate}
 use Rattle.base.specs.Bits.{both, either}
 use Rattle.base.specs.Places.{tabulate}
 use Rattle.base.proofs.Table.{both-left, both-right, below, at}
 use Rattle.convenc.specs.Generators.{control, speech, tapped, outputs}
-use Rattle.viterbi.specs.Scores.{Sign, signAt, Table, told, Tells}
+use Rattle.viterbi.specs.Scores.{Powers, Sign, signAt, Table, told, Tells}
 
 -- ---- a code's table
 abbrev sign : ℕ → ℤ
@@ -106,3 +106,11 @@ speech-table = table-of 3 speechTable (omega arith) (omega arith) tt
 pub speech-tells : Tells speech 3 speechTable
 unfolding tapped speechTable same tabulate
 speech-tells = tells-of speech 3 speechTable refl tt
+
+-- ---- the powers of two
+unfoldable pub powersTable : List ℕ
+powersTable = map (λ s. 2 ^ s) states
+
+pub powers-table : Powers powersTable
+unfolding powersTable
+powers-table s h = eqb→eq (getD powersTable s 0) (2 ^ s) (at (λ s. eqb (getD powersTable s 0) (2 ^ s)) 16 tt s h)

@@ -4,10 +4,8 @@ use mathlib.Core.Path.{_≡_, refl, sym, ap, ap₂, _∙_, subst}
 use mathlib.Core.List.{List, [], _∷_, _++_, append-assoc, reverse, reverseAux}
 use Prim.Native.Nat.{ℕ, zero, suc, _+_, _*_, _/_, _%_, _^_, _-_, _≤_, _<_}
 use native.Mathlib.Omega.{arith}
-use lib.ListN.{length, getD, take, drop, set, replicate, length-append, length-drop, length-replicate, length-set, take-append-drop, List·getD-append}
+use lib.ListN.{length, getD, take, drop, set, replicate, length-set, take-append-drop, List·getD-append}
 use lib.Seq.{take-suc, set-at, length-take-le, getD-take}
-use Rattle.base.specs.Places.{written}
-use Rattle.trellis.specs.Trellis.{before}
 use Rattle.viterbi.specs.Scores.{walk, walkEnd, Back}
 
 -- with i steps to go, in state s

@@ -1,9 +1,9 @@
 -- The better of two ways into a state, by signed scores.
 -- Assumes nothing.
-use mathlib.Core.Path.{_≡_, refl, sym, ap, ap₂, _∙_}
+use mathlib.Core.Path.{_≡_, refl, sym, ap, ap₂, _∙_, subst⁻¹}
 use mathlib.Core.List.{List}
 use mathlib.Core.Bool.{Bool, true, false, cond}
-use Prim.Native.Nat.{ℕ, _+_, _*_, _%_, _≤_, _<_}
+use Prim.Native.Nat.{ℕ, _+_, _*_, _%_, _<_}
 use native.Mathlib.Omega.{arith}
 use borrow.Author.Tests.{lt-ltb, le-ltb}
 use lib.Dec.{ltb}
@@ -14,88 +14,111 @@ use mir.Syntax.{w16}
 use mir.Val.{SFits, toZ, ofZ}
 use mir.Facts.{toZ-ofZ}
 use Rattle.trellis.specs.Trellis.{before, lesser, taken}
-use Rattle.viterbi.specs.Scores.{up, down, Stands, Small, second, better, oldest, into}
+use Rattle.viterbi.specs.Scores.{Stands, Small, Holds, Marks, firstWay, secondWay, better, oldest, Turned}
 use Rattle.viterbi.proofs.Signed.{add-parts, take-parts, less-yes, less-no, mag-add, mag-take, fits, reads}
 
 -- ---- in i16
-module _ (p q b : ℤ) (hp : mag p < 30000) (hq : mag q < 30000) (hb : mag b < 100) where
-  rp : toZ w16 (ofZ w16 p) ≡ p
-  rp = reads p 30000 hp (omega arith)
-
-  rq : toZ w16 (ofZ w16 q) ≡ q
-  rq = reads q 30000 hq (omega arith)
+module _ (x b : ℤ) (hx : mag x < 30000) (hb : mag b < 100) where
+  rx : toZ w16 (ofZ w16 x) ≡ x
+  rx = reads x 30000 hx (omega arith)
 
   rb : toZ w16 (ofZ w16 b) ≡ b
   rb = reads b 100 hb (omega arith)
 
-  pub first-fits : SFits w16 (toZ w16 (ofZ w16 p) +ℤ toZ w16 (ofZ w16 b))
-  first-fits = rw (rp, rb) (fits (p +ℤ b) 30100 (mag-add p b 30000 100 hp hb) (omega arith))
+  first-fits : SFits w16 (toZ w16 (ofZ w16 x) +ℤ toZ w16 (ofZ w16 b))
+  first-fits = rw (rx, rb) (fits (x +ℤ b) 30100 (mag-add x b 30000 100 hx hb) (omega arith))
 
-  pub other-fits : SFits w16 (toZ w16 (ofZ w16 q) -ℤ toZ w16 (ofZ w16 b))
-  other-fits = rw (rq, rb) (fits (q -ℤ b) 30100 (mag-take q b 30000 100 hq hb) (omega arith))
+  first-is : toZ w16 (ofZ w16 (toZ w16 (ofZ w16 x) +ℤ toZ w16 (ofZ w16 b))) ≡ x +ℤ b
+  first-is = toZ-ofZ first-fits ∙ ap₂ _+ℤ_ rx rb
 
-  pub first-is : toZ w16 (ofZ w16 (toZ w16 (ofZ w16 p) +ℤ toZ w16 (ofZ w16 b))) ≡ p +ℤ b
-  first-is = toZ-ofZ first-fits ∙ ap₂ _+ℤ_ rp rb
+  second-fits : SFits w16 (toZ w16 (ofZ w16 x) -ℤ toZ w16 (ofZ w16 b))
+  second-fits = rw (rx, rb) (fits (x -ℤ b) 30100 (mag-take x b 30000 100 hx hb) (omega arith))
 
-  pub other-is : toZ w16 (ofZ w16 (toZ w16 (ofZ w16 q) -ℤ toZ w16 (ofZ w16 b))) ≡ q -ℤ b
-  other-is = toZ-ofZ other-fits ∙ ap₂ _-ℤ_ rq rb
+  second-is : toZ w16 (ofZ w16 (toZ w16 (ofZ w16 x) -ℤ toZ w16 (ofZ w16 b))) ≡ x -ℤ b
+  second-is = toZ-ofZ second-fits ∙ ap₂ _-ℤ_ rx rb
 
-  pub takes-other : ltZ (toZ w16 (ofZ w16 (toZ w16 (ofZ w16 q) -ℤ toZ w16 (ofZ w16 b)))) (toZ w16 (ofZ w16 (toZ w16 (ofZ w16 p) +ℤ toZ w16 (ofZ w16 b)))) ≡ true
-      → (toZ w16 (ofZ w16 (toZ w16 (ofZ w16 q) -ℤ toZ w16 (ofZ w16 b))) ≡ better p q b) × (1 ≡ oldest p q b)
-  takes-other t =
-      let e : second p q b ≡ true = sym (ap₂ ltZ other-is first-is) ∙ t in
-      (other-is ∙ sym (ap (λ (x : Bool). cond x (q -ℤ b) (p +ℤ b)) e), sym (ap (λ (x : Bool). cond {A = ℕ} x 1 0) e))
+  first-small : mag (x +ℤ b) < 31000
+  first-small = omega (arith, mag-add x b 30000 100 hx hb)
 
-  pub takes-first : ltZ (toZ w16 (ofZ w16 (toZ w16 (ofZ w16 q) -ℤ toZ w16 (ofZ w16 b)))) (toZ w16 (ofZ w16 (toZ w16 (ofZ w16 p) +ℤ toZ w16 (ofZ w16 b)))) ≡ false
-      → (toZ w16 (ofZ w16 (toZ w16 (ofZ w16 p) +ℤ toZ w16 (ofZ w16 b))) ≡ better p q b) × (0 ≡ oldest p q b)
-  takes-first t =
-      let e : second p q b ≡ false = sym (ap₂ ltZ other-is first-is) ∙ t in
-      (first-is ∙ sym (ap (λ (x : Bool). cond x (q -ℤ b) (p +ℤ b)) e), sym (ap (λ (x : Bool). cond {A = ℕ} x 1 0) e))
+  second-small : mag (x -ℤ b) < 31000
+  second-small = omega (arith, mag-take x b 30000 100 hx hb)
+
+-- the same at each state
+module _ (m b : List ℤ) (hm : Small 30000 m) (hb : Small 100 b) (s : ℕ) (hs : s < 16) where
+  place : s % 8 * 2 ≡ before 0 s
+  place = omega arith
+
+  pub first-way-fits : SFits w16 (toZ w16 (ofZ w16 (getD m (s % 8 * 2) (pos 0))) +ℤ toZ w16 (ofZ w16 (getD b s (pos 0))))
+  first-way-fits = first-fits (getD m (s % 8 * 2) (pos 0)) (getD b s (pos 0)) (hm (s % 8 * 2) (omega arith)) (hb s hs)
+
+  pub first-way-is : toZ w16 (ofZ w16 (toZ w16 (ofZ w16 (getD m (s % 8 * 2) (pos 0))) +ℤ toZ w16 (ofZ w16 (getD b s (pos 0))))) ≡ firstWay m b s
+  first-way-is =
+      first-is (getD m (s % 8 * 2) (pos 0)) (getD b s (pos 0)) (hm (s % 8 * 2) (omega arith)) (hb s hs)
+      ∙ ap (λ (i : ℕ). getD m i (pos 0) +ℤ getD b s (pos 0)) place
+
+  pub second-way-fits : SFits w16 (toZ w16 (ofZ w16 (getD m (s % 8 * 2 + 1) (pos 0))) -ℤ toZ w16 (ofZ w16 (getD b s (pos 0))))
+  second-way-fits = second-fits (getD m (s % 8 * 2 + 1) (pos 0)) (getD b s (pos 0)) (hm (s % 8 * 2 + 1) (omega arith)) (hb s hs)
+
+  pub second-way-is : toZ w16 (ofZ w16 (toZ w16 (ofZ w16 (getD m (s % 8 * 2 + 1) (pos 0))) -ℤ toZ w16 (ofZ w16 (getD b s (pos 0))))) ≡ secondWay m b s
+  second-way-is = second-is (getD m (s % 8 * 2 + 1) (pos 0)) (getD b s (pos 0)) (hm (s % 8 * 2 + 1) (omega arith)) (hb s hs)
+
+  first-way-small : mag (firstWay m b s) < 31000
+  first-way-small = first-small (getD m (before 0 s) (pos 0)) (getD b s (pos 0)) (hm (before 0 s) (omega arith)) (hb s hs)
+
+  second-way-small : mag (secondWay m b s) < 31000
+  second-way-small = second-small (getD m (before 1 s) (pos 0)) (getD b s (pos 0)) (hm (before 1 s) (omega arith)) (hb s hs)
+
+-- ---- the smaller of two
+module _ (p q : ℤ) (hp : mag p < 31000) (hq : mag q < 31000) where
+  rp : toZ w16 (ofZ w16 p) ≡ p
+  rp = reads p 31000 hp (omega arith)
+
+  rq : toZ w16 (ofZ w16 q) ≡ q
+  rq = reads q 31000 hq (omega arith)
+
+  test : (t : Bool) → ltZ (toZ w16 (ofZ w16 q)) (toZ w16 (ofZ w16 p)) ≡ t → ltZ q p ≡ t
+  test t e = sym (ap₂ ltZ rq rp) ∙ e
+
+  pub takes-second : (z : ℕ) → z ≡ ofZ w16 q → ltZ (toZ w16 (ofZ w16 q)) (toZ w16 (ofZ w16 p)) ≡ true → toZ w16 z ≡ better p q
+  takes-second z e t = ap (toZ w16) e ∙ rq ∙ sym (ap (λ (b : Bool). cond b q p) (test true t))
+
+  pub takes-first : (z : ℕ) → z ≡ ofZ w16 p → ltZ (toZ w16 (ofZ w16 q)) (toZ w16 (ofZ w16 p)) ≡ false → toZ w16 z ≡ better p q
+  takes-first z e t = ap (toZ w16) e ∙ rp ∙ sym (ap (λ (b : Bool). cond b q p) (test false t))
+
+  pub marks-second : ltZ (toZ w16 (ofZ w16 q)) (toZ w16 (ofZ w16 p)) ≡ true → 1 ≡ oldest p q
+  marks-second t = sym (ap (λ (b : Bool). cond {A = ℕ} b 1 0) (test true t))
+
+  pub marks-first : ltZ (toZ w16 (ofZ w16 q)) (toZ w16 (ofZ w16 p)) ≡ false → 0 ≡ oldest p q
+  marks-first t = sym (ap (λ (b : Bool). cond {A = ℕ} b 1 0) (test false t))
+
+-- ---- the arrays of a step
+pub first-ways-small : (m b p : List ℤ) → Small 30000 m → Small 100 b → Holds (firstWay m b) p → Small 31000 p
+first-ways-small m b p hm hb h s l = subst⁻¹ (λ (z : ℤ). mag z < 31000) (h s l) (first-way-small m b hm hb s l)
+
+pub second-ways-small : (m b q : List ℤ) → Small 30000 m → Small 100 b → Holds (secondWay m b) q → Small 31000 q
+second-ways-small m b q hm hb h s l = subst⁻¹ (λ (z : ℤ). mag z < 31000) (h s l) (second-way-small m b hm hb s l)
+
+pub ways-turn : (m b p q new : List ℤ) (taken : ℕ) → Holds (firstWay m b) p → Holds (secondWay m b) q
+    → Holds (λ s. better (getD p s (pos 0)) (getD q s (pos 0))) new → Marks (λ s. oldest (getD p s (pos 0)) (getD q s (pos 0))) taken → Turned m b new taken
+ways-turn m b p q new taken hp hq hn ht =
+    record { scores = λ s l. hn s l ∙ ap₂ better (hp s l) (hq s l); bits = λ s l. ht s l ∙ ap₂ oldest (hp s l) (hq s l) }
 
 -- ---- as the costs that the scores stand for
 pub way-stands : (p q b : ℤ) (m n c d k e : ℕ) → Stands p m k → Stands q n k → Stands b c e → c + d ≡ e
-    → Stands (better p q b) (lesser (m + c) (n + d)) (k + e) × (oldest p q b ≡ taken (m + c) (n + d))
-way-stands p q b m n c d k e sp sq sb h = go (second p q b) refl
+    → Stands (better (p +ℤ b) (q -ℤ b)) (lesser (m + c) (n + d)) (k + e) × (oldest (p +ℤ b) (q -ℤ b) ≡ taken (m + c) (n + d))
+way-stands p q b m n c d k e sp sq sb h = go (ltZ (q -ℤ b) (p +ℤ b)) refl
   where
     first : Stands (p +ℤ b) (m + c) (k + e)
     first = omega (arith, add-parts p b)
 
-    other : Stands (q -ℤ b) (n + d) (k + e)
-    other = omega (arith, take-parts q b)
+    second : Stands (q -ℤ b) (n + d) (k + e)
+    second = omega (arith, take-parts q b)
 
-    go : (t : Bool) → second p q b ≡ t
+    go : (t : Bool) → ltZ (q -ℤ b) (p +ℤ b) ≡ t
         → Stands (cond t (q -ℤ b) (p +ℤ b)) (lesser (m + c) (n + d)) (k + e) × (cond t 1 0 ≡ taken (m + c) (n + d))
     go true f =
-        let l : ltb (n + d) (m + c) ≡ true = lt-ltb (n + d) (m + c) (omega (arith, less-yes (q -ℤ b) (p +ℤ b) f, first, other)) in
-        rw l (other, refl)
+        let l : ltb (n + d) (m + c) ≡ true = lt-ltb (n + d) (m + c) (omega (arith, less-yes (q -ℤ b) (p +ℤ b) f, first, second)) in
+        rw l (second, refl)
     go false f =
-        let l : ltb (n + d) (m + c) ≡ false = le-ltb (n + d) (m + c) (omega (arith, less-no (q -ℤ b) (p +ℤ b) f, first, other)) in
+        let l : ltb (n + d) (m + c) ≡ false = le-ltb (n + d) (m + c) (omega (arith, less-no (q -ℤ b) (p +ℤ b) f, first, second)) in
         rw l (first, refl)
-
-pub into-lt : (old b : List ℤ) (s : ℕ) → into oldest old b s < 2
-into-lt old b s = go (into second old b s)
-  where
-    go : (t : Bool) → cond t 1 0 < 2
-    go true = omega arith
-    go false = omega arith
-
--- ---- at each state
-module _ (old b : List ℤ) (ho : Small 30000 old) (hb : Small 100 b) (s : ℕ) (hs : s < 16) where
-  old-reads : (i : ℕ) → i < 16 → toZ w16 (ofZ w16 (getD old i (pos 0))) ≡ getD old i (pos 0)
-  old-reads i h = reads (getD old i (pos 0)) 30000 (ho i h) (omega arith)
-
-  b-reads : toZ w16 (ofZ w16 (getD b s (pos 0))) ≡ getD b s (pos 0)
-  b-reads = reads (getD b s (pos 0)) 100 (hb s hs) (omega arith)
-
-  pub way-asks : (mag (toZ w16 (ofZ w16 (getD old (s % 8 * 2) (pos 0)))) < 30000) × (mag (toZ w16 (ofZ w16 (getD old (s % 8 * 2 + 1) (pos 0)))) < 30000)
-      × (mag (toZ w16 (ofZ w16 (getD b s (pos 0)))) < 100)
-  way-asks =
-      rw (old-reads (s % 8 * 2) (omega arith), old-reads (s % 8 * 2 + 1) (omega arith), b-reads)
-      (ho (s % 8 * 2) (omega arith), ho (s % 8 * 2 + 1) (omega arith), hb s hs)
-
-  pub way-into : {A : Type 0} (f : ℤ → ℤ → ℤ → A)
-      → f (toZ w16 (ofZ w16 (getD old (s % 8 * 2) (pos 0)))) (toZ w16 (ofZ w16 (getD old (s % 8 * 2 + 1) (pos 0)))) (toZ w16 (ofZ w16 (getD b s (pos 0)))) ≡ into f old b s
-  way-into f =
-      let e : s % 8 * 2 ≡ before 0 s = omega arith in
-      rw (old-reads (s % 8 * 2) (omega arith), old-reads (s % 8 * 2 + 1) (omega arith), b-reads)
-      (ap (λ (i : ℕ). f (getD old i (pos 0)) (getD old (before 1 s) (pos 0)) (getD b s (pos 0))) e)

@@ -2,18 +2,18 @@
 -- A match lowers a score by one and a mismatch raises it by one, so n mismatches among k known symbols make 2 n less k.
 -- Assumes nothing.
 use mathlib.Core.Path.{_≡_}
-use mathlib.Core.Bool.{Bool, true, false, cond}
-use mathlib.Core.List.{List, [], _∷_, _++_, map, reverse}
+use mathlib.Core.Bool.{cond}
+use mathlib.Core.List.{List, [], _∷_, reverse}
 use mathlib.Core.Logic.{_⊎_}
 use Prim.Native.Nat.{ℕ, zero, suc, _+_, _*_, _/_, _%_, _^_, _-_, _≤_, _<_}
 use lib.IntN.{ℤ, pos, negsuc, negℤ, _+ℤ_, _-ℤ_}
 use lib.Signed.{mag, ltZ}
-use lib.ListN.{length, getD, take, drop, replicate}
+use lib.ListN.{length, getD, take}
 use Rattle.base.specs.Bits.{disagrees, known}
 use Rattle.base.specs.Places.{tabulate, written}
 use Rattle.trellis.specs.Nearest.{total}
 use Rattle.trellis.specs.Trellis.{before, metric, choice, branch, steps}
-use Rattle.convenc.specs.Generators.{tapped, outputs}
+use Rattle.convenc.specs.Generators.{outputs}
 use Rattle.viterbi.specs.Decoding.{cleared}
 
 -- ---- signed numbers: z is `up z` less `down z`, and one of the two is 0
@@ -29,9 +29,25 @@ down (negsuc n) = suc n
 abbrev pub Stands : ℤ → ℕ → ℕ → Type 0
 Stands z n k = up z + k ≡ 2 * n + down z
 
--- each of the sixteen is below h either way
+-- P of each of the sixteen entries
+abbrev pub Sixteen : (ℤ → Type 0) → List ℤ → Type 0
+Sixteen P zs = (s : ℕ) → s < 16 → P (getD zs s (pos 0))
+
+-- entry s is f s
+abbrev pub Holds : (ℕ → ℤ) → List ℤ → Type 0
+Holds f zs = (s : ℕ) → s < 16 → getD zs s (pos 0) ≡ f s
+
+-- the binary digit of weight 2 ^ s is f s
+abbrev pub Marks : (ℕ → ℕ) → ℕ → Type 0
+Marks f n = (s : ℕ) → s < 16 → n / 2 ^ s % 2 ≡ f s
+
+-- entry s is 2 ^ s
+abbrev pub Powers : List ℕ → Type 0
+Powers ps = (s : ℕ) → s < 16 → getD ps s 0 ≡ 2 ^ s
+
+-- each entry is at least - h and below h
 abbrev pub Small : ℕ → List ℤ → Type 0
-Small h zs = (s : ℕ) → s < 16 → mag (getD zs s (pos 0)) < h
+Small h = Sixteen (λ z. mag z < h)
 
 -- ---- the table of expected bits: -1 for 0, 1 for 1
 -- what generator j's row expects at state s, if the bit before the state's four was 0
@@ -42,9 +58,11 @@ signAt t j s = getD (getD t j []) s (pos 0)
 abbrev pub Trit : ℤ → Type 0
 Trit e = (up e ≤ 1) × (down e ≤ 1)
 
+-- -1 or 1, for the bits 0 and 1
 abbrev pub Sign : ℤ → Type 0
 Sign e = (e ≡ negsuc 0) ⊎ (e ≡ pos 1)
 
+-- the bit of a sign
 abbrev pub bitOf : ℤ → ℕ
 bitOf (pos n) = n
 bitOf (negsuc n) = 0
@@ -77,6 +95,20 @@ scoreOf zero e = e
 scoreOf (suc zero) e = negℤ e
 scoreOf (suc (suc r)) e = pos 0
 
+-- the row of a symbol: the bit itself, or 2 for every erasure
+abbrev pub classOf : ℕ → ℕ
+classOf zero = 0
+classOf (suc zero) = 1
+classOf (suc (suc r)) = 2
+
+-- one row for each class, of what its symbols add where the signs e are expected
+abbrev pub Rows : List ℤ → List (List ℤ) → Type 0
+Rows e rows = (c s : ℕ) → c < 3 → s < 16 → getD (getD rows c []) s (pos 0) ≡ scoreOf c (getD e s (pos 0))
+
+-- rows of -1, 0 and 1
+abbrev pub Trits : List (List ℤ) → Type 0
+Trits rows = (c : ℕ) → c < 3 → Sixteen Trit (getD rows c [])
+
 -- the branch into state s whose oldest bit is 0, by the k symbols from `at` on; of three the last stands again before the row of zeros
 abbrev pub branchOf : List (List ℤ) → ℕ → List ℕ → ℕ → ℕ → ℤ
 branchOf t k src at s =
@@ -84,23 +116,24 @@ branchOf t k src at s =
     +ℤ scoreOf (getD src (at + (k - 1)) 0) (signAt t 3 s)
 
 -- ---- a step
--- of two ways into a state, from a score p by an oldest bit 0 and from a score q by an oldest bit 1, the second is taken only where it is smaller
-abbrev pub second : ℤ → ℤ → ℤ → Bool
-second p q b = ltZ (q -ℤ b) (p +ℤ b)
+-- the scores of the two ways into state s, by an oldest bit 0 and by an oldest bit 1
+abbrev pub firstWay : List ℤ → List ℤ → ℕ → ℤ
+firstWay m b s = getD m (before 0 s) (pos 0) +ℤ getD b s (pos 0)
 
-abbrev pub better : ℤ → ℤ → ℤ → ℤ
-better p q b = cond (second p q b) (q -ℤ b) (p +ℤ b)
+abbrev pub secondWay : List ℤ → List ℤ → ℕ → ℤ
+secondWay m b s = getD m (before 1 s) (pos 0) -ℤ getD b s (pos 0)
 
-abbrev pub oldest : ℤ → ℤ → ℤ → ℕ
-oldest p q b = cond (second p q b) 1 0
+-- of two ways the second is taken only where its score is smaller: the score that is taken, and its oldest bit
+abbrev pub better : ℤ → ℤ → ℤ
+better p q = cond (ltZ q p) q p
 
--- the same of state s, by the scores before it and the branch scores
-abbrev pub into : {A : Type 0} → (ℤ → ℤ → ℤ → A) → List ℤ → List ℤ → ℕ → A
-into f old b s = f (getD old (before 0 s) (pos 0)) (getD old (before 1 s) (pos 0)) (getD b s (pos 0))
+abbrev pub oldest : ℤ → ℤ → ℕ
+oldest p q = cond (ltZ q p) 1 0
 
-pub record Turned (old b new : List ℤ) (taken : ℕ) : Type 0 where
-  pub score : (s : ℕ) → s < 16 → getD new s (pos 0) ≡ into better old b s
-  pub bit : (s : ℕ) → s < 16 → taken / 2 ^ s % 2 ≡ into oldest old b s
+-- the scores m and the branch scores b make new ones, and `taken` has the oldest bit of the way into each state
+pub record Turned (m b new : List ℤ) (taken : ℕ) : Type 0 where
+  pub scores : Holds (λ s. better (firstWay m b s) (secondWay m b s)) new
+  pub bits : Marks (λ s. oldest (firstWay m b s) (secondWay m b s)) taken
 
 -- ---- the pass over the symbols, and the walk back
 -- the cost that a state begins with
@@ -115,8 +148,7 @@ received k t src n = steps disagrees (told k t) k src n
 -- after n steps each score stands for its path's cost, and the trellis holds the choices
 pub record Forward (k : ℕ) (t : List (List ℤ)) (src : List ℕ) (n : ℕ) (m : List ℤ) (was now : List ℕ) : Type 0 where
   pub scores : (s : ℕ) → s < 16 → Stands (getD m s (pos 0)) (metric handicap (received k t src n) s) (total known (take (k * n) src))
-  pub choices : (i s : ℕ) → i < n → s < 16
-      → getD now i 0 / 2 ^ s % 2 ≡ choice handicap (branch disagrees (told k t) k src i) (received k t src i) s
+  pub choices : (i : ℕ) → i < n → Marks (choice handicap (branch disagrees (told k t) k src i) (received k t src i)) (getD now i 0)
   pub long : length now ≡ length was
   pub rest : (i : ℕ) → n ≤ i → getD now i 0 ≡ getD was i 0
 
@@ -129,6 +161,7 @@ abbrev pub walkEnd : List ℕ → ℕ → ℕ → ℕ
 walkEnd trellis zero s = s
 walkEnd trellis (suc i) s = walkEnd trellis i (before (getD trellis i 0 / 2 ^ s % 2) s)
 
+-- the walk wrote its bits over the front of the target, in the order of the air, and cleared what it read
 pub record Back (n end : ℕ) (trellis trellis′ target target′ : List ℕ) : Type 0 where
   pub ends : end ≡ walkEnd trellis n 0
   pub word : target′ ≡ written (reverse (walk trellis n 0)) target

@@ -1,17 +1,26 @@
 // The parts of the decoders: these ask something of their caller.
 ghost use mathlib.Core.Path.{_≡_};
-ghost use mathlib.Core.List.{List};
+ghost use mathlib.Core.List.{List, []};
 ghost use Prim.Native.Nat.{ℕ, _+_, _*_, _≤_, _<_};
-ghost use lib.IntN.{pos};
+ghost use lib.IntN.{ℤ, pos, _+ℤ_};
 ghost use lib.Signed.{mag};
 ghost use lib.ListN.{length, getD, take};
 ghost use Rattle.base.specs.Bits.{known};
 ghost use Rattle.trellis.specs.Nearest.{total};
 ghost use Rattle.viterbi.specs.Decoding.{decodeRefusal, Decodes};
-ghost use Rattle.viterbi.specs.Scores.{Trit, Small, Stands, Table, Tells, scoreOf, branchOf, better, oldest, Turned, Forward, Back, down};
+ghost use Rattle.viterbi.specs.Scores.{Sixteen, Holds, Marks, Powers, Small, Trit, Trits, Stands, Table, Tells, Rows, classOf, branchOf, firstWay, secondWay, better, oldest, Turned, Forward, Back, down};
 use super::Decoded;
 
-// More than four steps can cost, and little enough for 864 steps.
+// The refusals of document 01.
+const LIMIT: u8 = 1;
+
+const SHORT: u8 = 2;
+
+const ROOM: u8 = 3;
+
+const START: u8 = 9;
+
+// What the states other than 0 begin with: more than four steps can cost, and little enough for 864 steps in an i16.
 const HANDICAP: i16 = 4096;
 
 // The path scores of the sixteen states.
@@ -25,109 +34,152 @@ pub struct Turn {
     pub taken: u16,
 }
 
-// The score of the way that is taken, and its oldest bit.
-pub struct Way {
-    pub score: i16,
-    pub bit: u16,
-}
-
-// What one received symbol adds to a branch that expects e: a match -1, a mismatch 1, an erasure 0.
-fn score(symbol: u8, e: i8) -> i16
-    requires { ⌜ Trit e ⌝ }
-    ensures { λ z. ⌜ z ≡ scoreOf symbol e ⌝ }
+// What each class of symbols adds to the branches of one generator, by the signs that it expects: a match -1, a mismatch 1.
+fn rows(e: [i8; 16]) -> [[i16; 16]; 3]
+    requires { ⌜ Sixteen Trit e ⌝ }
+    ensures { λ r. ⌜ Rows e r ⌝ }
 {
-    let wide = e as i16;
-    if symbol == 0 {
-        return wide;
-    }
-    if symbol == 1 {
-        return -wide;
-    }
-    0
-}
-
-// The score of the branch into state s whose oldest bit is 0.
-fn branch(expected: [[i8; 16]; 4], k: usize, source: &[u8], at: usize, s: usize) -> i16
-    requires { ⌜ Table k expected × (at + k ≤ length (now source)) × (s < 16) ⌝ }
-    ensures { λ z. ⌜ z ≡ branchOf expected k (now (source .entry)) at s ⌝ }
-{
-    let a = score(source[at], expected[0][s]);
-    let b = score(source[at + 1], expected[1][s]);
-    let c = score(source[at + 2], expected[2][s]);
-    let d = score(source[at + (k - 1)], expected[3][s]);
-    a + b + c + d
-}
-
-fn branches(expected: [[i8; 16]; 4], k: usize, source: &[u8], at: usize) -> [i16; 16]
-    requires { ⌜ Table k expected × (at + k ≤ length (now source)) ⌝ }
-    ensures { λ b. ⌜ ((s : ℕ) → s < 16 → getD b s (pos 0) ≡ branchOf expected k (now (source .entry)) at s) ⌝ }
-{
-    let mut b = [0i16; 16];
+    let mut r = [[0i16; 16]; 3];
     for s in 0..16 {
-        let z = branch(expected, k, source, at, s);
-        b[s] = z;
+        let wide = e[s] as i16;
+        r[0][s] = wide;
+        r[1][s] = -wide;
     }
-    b
+    r
 }
 
-// The better of two ways into a state, by the scores before it and the branch score of the first; the second is its negative.
-fn choose(p: i16, q: i16, b: i16) -> Way
-    requires { ⌜ (mag p < 30000) × (mag q < 30000) × (mag b < 100) ⌝ }
-    ensures { λ r. ⌜ (r .score ≡ better p q b) × (r .bit ≡ oldest p q b) ⌝ }
+// A symbol's class: 0 and 1 for the bits, 2 for every erasure.
+fn class(symbol: u8) -> usize
+    ensures { λ r. ⌜ (r ≡ classOf symbol) × (r < 3) ⌝ }
 {
-    let first = p + b;
-    let other = q - b;
-    if other < first {
-        Way {
-            score: other,
-            bit: 1,
-        }
-    } else {
-        Way {
-            score: first,
-            bit: 0,
-        }
-    }
+    if symbol < 2 { symbol as usize } else { 2 }
 }
 
-// One step of all sixteen states.
-fn advance(old: Scores, b: [i16; 16]) -> Turn
-    requires { ⌜ Small 30000 (old .m) × Small 100 b ⌝ }
-    ensures { λ r. ⌜ Turned (old .m) b (r .scores .m) (r .taken) ⌝ }
+// Four rows added up.
+fn sums(a: [i16; 16], b: [i16; 16], c: [i16; 16], d: [i16; 16]) -> [i16; 16]
+    requires { ⌜ Sixteen Trit a × Sixteen Trit b × Sixteen Trit c × Sixteen Trit d ⌝ }
+    ensures { λ r. ⌜ Holds (λ s. getD a s (pos 0) +ℤ getD b s (pos 0) +ℤ getD c s (pos 0) +ℤ getD d s (pos 0)) r ⌝ }
 {
-    let mut m = [0i16; 16];
+    let mut r = [0i16; 16];
+    for s in 0..16 {
+        r[s] = a[s] + b[s] + c[s] + d[s];
+    }
+    r
+}
+
+// The branch scores of a step, by the rows of its four generators.
+fn branches(
+    a: &[[i16; 16]; 3],
+    b: &[[i16; 16]; 3],
+    c: &[[i16; 16]; 3],
+    d: &[[i16; 16]; 3],
+    k: usize,
+    source: &[u8],
+    at: usize,
+) -> [i16; 16]
+    requires { ⌜ Trits (now a) × Trits (now b) × Trits (now c) × Trits (now d) × (2 < k) × (at + k ≤ length (now source)) ⌝ }
+    ensures { λ r. ⌜ ((t : List (List ℤ)) → Rows (getD t 0 []) (now (a .entry)) → Rows (getD t 1 []) (now (b .entry)) → Rows (getD t 2 []) (now (c .entry))
+        → Rows (getD t 3 []) (now (d .entry)) → Holds (branchOf t k (now (source .entry)) at) r) ⌝ }
+{
+    let p = class(source[at]);
+    let q = class(source[at + 1]);
+    let r = class(source[at + 2]);
+    let s = class(source[at + (k - 1)]);
+    sums(a[p], b[q], c[r], d[s])
+}
+
+// The scores of the ways into each state whose oldest bit is 0.
+fn first_ways(m: [i16; 16], b: [i16; 16]) -> [i16; 16]
+    requires { ⌜ Small 30000 m × Small 100 b ⌝ }
+    ensures { λ r. ⌜ Holds (firstWay m b) r ⌝ }
+{
+    let mut r = [0i16; 16];
+    for s in 0..16 {
+        r[s] = m[s % 8 * 2] + b[s];
+    }
+    r
+}
+
+// The same of those whose oldest bit is 1: it turns every expected bit, so the branch score is the negative.
+fn second_ways(m: [i16; 16], b: [i16; 16]) -> [i16; 16]
+    requires { ⌜ Small 30000 m × Small 100 b ⌝ }
+    ensures { λ r. ⌜ Holds (secondWay m b) r ⌝ }
+{
+    let mut r = [0i16; 16];
+    for s in 0..16 {
+        r[s] = m[s % 8 * 2 + 1] - b[s];
+    }
+    r
+}
+
+// The smaller of two scores at each state.
+fn lessers(p: [i16; 16], q: [i16; 16]) -> [i16; 16]
+    requires { ⌜ Small 31000 p × Small 31000 q ⌝ }
+    ensures { λ r. ⌜ Holds (λ s. better (getD p s (pos 0)) (getD q s (pos 0))) r ⌝ }
+{
+    let mut r = [0i16; 16];
+    for s in 0..16 {
+        let mut z = p[s];
+        if q[s] < z {
+            z = q[s];
+        }
+        r[s] = z;
+    }
+    r
+}
+
+// Bit s is 1 where the second of two ways into state s has the smaller score.
+fn choices(powers: [u16; 16], p: [i16; 16], q: [i16; 16]) -> u16
+    requires { ⌜ Powers powers × Small 31000 p × Small 31000 q ⌝ }
+    ensures { λ r. ⌜ Marks (λ s. oldest (getD p s (pos 0)) (getD q s (pos 0))) r ⌝ }
+{
     let mut taken: u16 = 0;
     for s in 0..16 {
-        let p = s % 8 * 2;
-        let way = choose(old.m[p], old.m[p + 1], b[s]);
-        let score = way.score;
-        m[s] = score;
-        taken |= way.bit << s;
+        if q[s] < p[s] {
+            taken |= powers[s];
+        }
     }
+    taken
+}
+
+// One step of all sixteen states. The loops stand apart, each over whole arrays, so that they become vector code.
+fn advance(powers: [u16; 16], old: Scores, b: [i16; 16]) -> Turn
+    requires { ⌜ Powers powers × Small 30000 (old .m) × Small 100 b ⌝ }
+    ensures { λ r. ⌜ Turned (old .m) b (r .scores .m) (r .taken) ⌝ }
+{
+    let m = old.m;
+    let p = first_ways(m, b);
+    let q = second_ways(m, b);
+    let next = lessers(p, q);
     Turn {
-        scores: Scores { m },
-        taken,
+        scores: Scores { m: next },
+        taken: choices(powers, p, q),
     }
 }
 
 // The pass over n steps: the scores after them, and the choices at each in the trellis.
 fn forward(
+    powers: [u16; 16],
     expected: [[i8; 16]; 4],
     k: usize,
     source: &[u8],
     n: usize,
     trellis: &mut [u16],
 ) -> Scores
-    requires { ⌜ Table k expected × (n ≤ 864) × (k * n ≤ length (now source)) × (n ≤ length (now trellis)) ⌝ }
+    requires { ⌜ Powers powers × Table k expected × (n ≤ 864) × (k * n ≤ length (now source)) × (n ≤ length (now trellis)) ⌝ }
     ensures { λ r. ⌜ Forward k expected (now (source .entry)) n (r .m) (now (trellis .entry)) (now (trellis .exit)) ⌝ }
 {
+    let a = rows(expected[0]);
+    let b = rows(expected[1]);
+    let c = rows(expected[2]);
+    let d = rows(expected[3]);
     let mut first = [HANDICAP; 16];
     first[0] = 0;
     let mut scores = Scores { m: first };
     let mut i: usize = 0;
     let mut at: usize = 0;
     while i < n {
-        let turn = advance(scores, branches(expected, k, source, at));
+        let turn = advance(powers, scores, branches(&a, &b, &c, &d, k, source, at));
         trellis[i] = turn.taken;
         let next = turn.scores;
         scores = next;
@@ -138,16 +190,16 @@ fn forward(
 }
 
 // The walk back from state 0: it writes the word, clears the trellis and answers the state in which it ends.
-fn back(n: usize, trellis: &mut [u16], target: &mut [u8]) -> usize
+fn back(n: usize, trellis: &mut [u16], target: &mut [u8]) -> u16
     requires { ⌜ (n ≤ length (now trellis)) × (n ≤ length (now target)) ⌝ }
     ensures { λ r. ⌜ Back n r (now (trellis .entry)) (now (trellis .exit)) (now (target .entry)) (now (target .exit)) ⌝ }
 {
     let mut i = n;
-    let mut s: usize = 0;
+    let mut s: u16 = 0;
     while 0 < i {
         i -= 1;
         target[i] = (s / 8) as u8;
-        s = s % 8 * 2 + ((trellis[i] >> s) % 2) as usize;
+        s = s % 8 * 2 + (trellis[i] >> s) % 2;
         trellis[i] = 0;
     }
     s
@@ -182,21 +234,23 @@ fn refusal(k: usize, n: usize, source: usize, trellis: usize, target: usize) -> 
     ensures { λ r. ⌜ ((code : List (List ℕ)) → length code ≡ k → r ≡ decodeRefusal code n source trellis target) ⌝ }
 {
     if 864 < n {
-        return 1;
+        return LIMIT;
     }
     if source < k * n {
-        return 2;
+        return SHORT;
     }
     if trellis < n {
-        return 3;
+        return ROOM;
     }
     if target < n {
-        return 3;
+        return ROOM;
     }
     0
 }
 
+// The decoder where nothing is refused before it. START stands last, as document 01 has it, and is never met.
 fn run(
+    powers: [u16; 16],
     expected: [[i8; 16]; 4],
     k: usize,
     source: &[u8],
@@ -204,20 +258,21 @@ fn run(
     n: usize,
     trellis: &mut [u16],
 ) -> Decoded
-    requires { ⌜ Table k expected × (n ≤ 864) × (k * n ≤ length (now source)) × (n ≤ length (now trellis)) × (n ≤ length (now target)) ⌝ }
+    requires { ⌜ Powers powers × Table k expected × (n ≤ 864) × (k * n ≤ length (now source)) × (n ≤ length (now trellis)) × (n ≤ length (now target)) ⌝ }
     ensures { λ r. ⌜ ((code : List (List ℕ)) → Tells code k expected
         → Decodes code n (now (source .entry)) (now (target .entry)) (now (target .exit)) (now (trellis .entry)) (now (trellis .exit)) r) ⌝ }
 {
-    let scores = forward(expected, k, source, n, trellis);
+    let scores = forward(powers, expected, k, source, n, trellis);
     let z = scores.m[0];
     if 0 < back(n, trellis, target) {
-        return Decoded::Refused(9);
+        return Decoded::Refused(START);
     }
     Decoded::Word(cost(z, unerased(source, k * n)))
 }
 
 // Both decoders: n steps of k symbols over a table of expected bits.
 pub fn decode(
+    powers: [u16; 16],
     expected: [[i8; 16]; 4],
     k: usize,
     source: &[u8],
@@ -225,7 +280,7 @@ pub fn decode(
     n: usize,
     trellis: &mut [u16],
 ) -> Decoded
-    requires { ⌜ Table k expected ⌝ }
+    requires { ⌜ Powers powers × Table k expected ⌝ }
     ensures { λ r. ⌜ ((code : List (List ℕ)) → Tells code k expected
         → Decodes code n (now (source .entry)) (now (target .entry)) (now (target .exit)) (now (trellis .entry)) (now (trellis .exit)) r) ⌝ }
 {
@@ -233,5 +288,5 @@ pub fn decode(
     if 0 < number {
         return Decoded::Refused(number);
     }
-    run(expected, k, source, target, n, trellis)
+    run(powers, expected, k, source, target, n, trellis)
 }

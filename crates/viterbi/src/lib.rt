@@ -1,7 +1,6 @@
 // The Viterbi decoders of the control and the speech code. Ported from lmac/components/viterbi.rs; changed: one routine over
 // tables of expected bits for both codes, trellis and target lent by the caller, refusal numbers instead of asserts, and the
 // disagreements counted. A caller gets the nearest word and how many unerased symbols disagree with it.
-ghost use lib.ListN.{length};
 ghost use Rattle.convenc.specs.Generators.{control, speech};
 ghost use Rattle.viterbi.specs.Decoding.{Decodes};
 
@@ -29,11 +28,32 @@ const SPEECH: [[i8; 16]; 4] = [
     [0, 0, 0, 0, 0, 0, 0, 0, 0, 0, 0, 0, 0, 0, 0, 0],
 ];
 
+// Handed in as a parameter: where the compiler sees these numbers it makes slower code of the choices.
+const POWERS: [u16; 16] = [
+    1,
+    2,
+    4,
+    8,
+    16,
+    32,
+    64,
+    128,
+    256,
+    512,
+    1024,
+    2048,
+    4096,
+    8192,
+    16384,
+    32768,
+];
+
 // Decodes sym_count steps of four control symbols each: 0 and 1 are bits, every other byte is an erasure.
 pub fn dec_sb1(in_buf: &[u8], out_buf: &mut [u8], sym_count: usize, trellis: &mut [u16]) -> Decoded
-    ensures { λ r. ⌜ Decodes control «sym_count» (now («in_buf» .entry)) (now («out_buf» .entry)) (now («out_buf» .exit)) (now (trellis .entry)) (now (trellis .exit)) r ⌝ }
+    ensures { λ r. ⌜ Decodes control «sym_count» (now («in_buf» .entry)) (now («out_buf» .entry)) (now («out_buf» .exit))
+        (now (trellis .entry)) (now (trellis .exit)) r ⌝ }
 {
-    inner::decode(CONTROL, 4, in_buf, out_buf, sym_count, trellis)
+    inner::decode(POWERS, CONTROL, 4, in_buf, out_buf, sym_count, trellis)
 }
 
 // The same for steps of three speech symbols.
@@ -43,7 +63,8 @@ pub fn dec_speech(
     sym_count: usize,
     trellis: &mut [u16],
 ) -> Decoded
-    ensures { λ r. ⌜ Decodes speech «sym_count» (now («in_buf» .entry)) (now («out_buf» .entry)) (now («out_buf» .exit)) (now (trellis .entry)) (now (trellis .exit)) r ⌝ }
+    ensures { λ r. ⌜ Decodes speech «sym_count» (now («in_buf» .entry)) (now («out_buf» .entry)) (now («out_buf» .exit))
+        (now (trellis .entry)) (now (trellis .exit)) r ⌝ }
 {
-    inner::decode(SPEECH, 3, in_buf, out_buf, sym_count, trellis)
+    inner::decode(POWERS, SPEECH, 3, in_buf, out_buf, sym_count, trellis)
 }

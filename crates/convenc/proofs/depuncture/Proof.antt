@@ -2,23 +2,23 @@
 use mathlib.Core.Path.{_≡_, refl, ap, ap₂, _∙_}
 use mathlib.Core.List.{List}
 use Prim.Native.Nat.{ℕ, _-_, _≤_}
+use native.Mathlib.Omega.{arith}
 use lib.ListN.{length, getD, set}
-use Rattle.base.specs.Places.{written, gather, scatter}
+use borrow.Author.Needs.{needs}
+use Rattle.base.specs.Places.{scatter}
 use Rattle.base.proofs.Moves.{scatter-none, scatter-more, scatter-length}
 use Rattle.convenc.specs.Puncturing.{keptPlace, needed}
 use Rattle.convenc.specs.Walk.{Stands}
 use Rattle.convenc.proofs.Refusing.{Moves, moves}
 use Rattle.convenc.proofs.Walking.{Reads, here, reads-place, reads-below, stands-first}
-use native.Mathlib.Omega.{arith}
-use borrow.Author.Needs.{needs}
 use Rattle.convenc.proofs.depuncture.Statement.{statement}
 use Rattle.convenc.proofs.depuncture.Tie as tie
 
 abbrev Inv-loop : tie.InvT-loop
-Inv-loop mode input len output₀ p kept at₀ j₀ output at j = (j ≤ len) × Stands p j at × (output ≡ scatter (keptPlace mode) j input output₀)
+Inv-loop mode input len output₀ p m kept at₀ j₀ output at j = (j ≤ len) × Stands p j at × (output ≡ scatter (keptPlace mode) j input output₀)
 
 abbrev μ-loop : tie.MeasureT-loop
-μ-loop mode input len output₀ p kept at₀ j₀ output at j = len - j
+μ-loop mode input len output₀ p m kept at₀ j₀ output at j = len - j
 
 -- nothing is refused
 granted : (c : tie.Start Inv-loop μ-loop)
@@ -30,7 +30,6 @@ reading : (c : tie.In-loop Inv-loop μ-loop)
     → Reads
     (c .before .before .before .before .before .args .mode)
     (c .before .loop .j)
-    (c .before .before .get-puncturer .result .start)
     (c .before .loop .at .base)
     (c .before .loop .at .index)
 reading c =
@@ -52,36 +51,39 @@ loop-holds c =
     let a = c .before .before .before .args in
     (omega arith, stands-first (c .get-puncturer .result) refl refl refl, scatter-none (keptPlace (a .mode)) (a .input .now) (a .output .now))
 
-add-entry : tie.Need-add-entry Inv-loop μ-loop
-add-entry c = omega (arith, reading (c .before .before) .entry)
+mul-to : tie.Need-mul-to Inv-loop μ-loop
+mul-to c = omega (arith, granted (c .before .before .before .before .before) .kind)
 
-mul-place : tie.Need-mul-place Inv-loop μ-loop
-mul-place c = omega (arith, reading (c .before .before) .entry)
+index-1-to : tie.Need-index-1-to Inv-loop μ-loop
+index-1-to c = omega (arith, granted (c .before .before .before .before .before) .kind)
 
-array-read-place : tie.Need-array-read-place Inv-loop μ-loop
-array-read-place c = reading (c .before .before) .entry
+index-2-to : tie.Need-index-2-to Inv-loop μ-loop
+index-2-to c = reading c .entry
 
-add-place : tie.Need-add-place Inv-loop μ-loop
-add-place c = omega (arith, reading (c .before .before .before) .most, reading (c .before .before .before) .near)
+cast-to : tie.Need-cast-to Inv-loop μ-loop
+cast-to c = omega (arith, reading (c .before) .most)
 
-sub-place : tie.Need-sub-place Inv-loop μ-loop
-sub-place c = omega (arith, reading (c .before .before .before) .some)
+add-to : tie.Need-add-to Inv-loop μ-loop
+add-to c = omega (arith, reading (c .before .before) .most, reading (c .before .before) .near)
+
+sub-to : tie.Need-sub-to Inv-loop μ-loop
+sub-to c = omega (arith, reading (c .before .before) .some)
 
 shared-slice-read-output : tie.Need-shared-slice-read-output Inv-loop μ-loop
 shared-slice-read-output c =
-    let i = c .before .before .before .before in
+    let i = c .before .before .before in
     omega (arith, i .loop-test .taken, granted (i .before .before .before .before .before) .source)
 
 slice-write-output : tie.Need-slice-write-output Inv-loop μ-loop
 slice-write-output c =
-    let i = c .before .before .before .before in
+    let i = c .before .before .before in
     let s = i .before .before .before .before .before in
     reads-below (s .args .len) (length (i .before .loop .output)) (reading i) (granted s .kind) (i .loop-test .taken)
     (omega (arith, kept-length (i .before), granted s .target))
 
 next-requires : tie.Need-next-requires Inv-loop μ-loop
 next-requires c κs =
-    let i = c .before .before .before .before in
+    let i = c .before .before .before in
     let g = i .before .before in
     (g .get-puncturer .ensures .sound, i .before .loop .inv .1, omega (arith, i .loop-test .taken, granted (g .before .before .before) .limit))
 
@@ -93,7 +95,7 @@ loop-less c = search needs
 
 loop-again : tie.Need-loop-again Inv-loop μ-loop
 loop-again c =
-    let i = c .before .before .before .before .before in
+    let i = c .before .before .before .before in
     let l = i .before .loop in
     let s = i .before .before .before .before .before in (
       omega arith,
@@ -120,11 +122,12 @@ depuncture-spec =
     μ-loop
     get-puncturer-requires
     loop-holds
-    add-entry
-    mul-place
-    array-read-place
-    add-place
-    sub-place
+    mul-to
+    index-1-to
+    index-2-to
+    cast-to
+    add-to
+    sub-to
     shared-slice-read-output
     slice-write-output
     next-requires

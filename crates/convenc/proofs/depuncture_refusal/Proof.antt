@@ -1,8 +1,8 @@
 -- Each return is one test of the definition, with the tests before it.
-use Rattle.convenc.specs.Puncturing.{needed}
-use Rattle.convenc.proofs.Refusing.{moving-kind, moving-limit, moving-short, moving-room, moving-none}
 use native.Mathlib.Omega.{arith}
 use borrow.Author.Needs.{needs}
+use Rattle.convenc.specs.Puncturing.{needed}
+use Rattle.convenc.proofs.Refusing.{moving-kind, moving-limit, moving-short, moving-room, moving-none}
 use Rattle.convenc.proofs.depuncture_refusal.Statement.{statement}
 use Rattle.convenc.proofs.depuncture_refusal.Tie as tie
 

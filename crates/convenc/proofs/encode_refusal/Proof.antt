@@ -1,11 +1,11 @@
 -- Each return is one test of the definition, with the tests before it.
-use mathlib.Core.Path.{_≡_, sym, ap, _∙_}
+use mathlib.Core.Path.{sym, _∙_}
 use native.Mathlib.Nat.{mul-le-mul-right}
-use borrow.Author.Tests.{not-true, not-false}
-use lib.ListN.{length}
-use Rattle.convenc.proofs.Refusing.{refusal-none, refuses-limit, refuses-room, refuses-input, refuses-delayed, refuses-none}
 use native.Mathlib.Omega.{arith}
+use lib.ListN.{length}
+use borrow.Author.Tests.{not-true, not-false}
 use borrow.Author.Needs.{needs}
+use Rattle.convenc.proofs.Refusing.{refusal-none, refuses-limit, refuses-room, refuses-input, refuses-delayed, refuses-none}
 use Rattle.convenc.proofs.encode_refusal.Statement.{statement}
 use Rattle.convenc.proofs.encode_refusal.Tie as tie
 

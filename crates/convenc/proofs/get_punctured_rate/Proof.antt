@@ -1,11 +1,10 @@
 -- The refusal's number decides; without one the work below is done.
 use mathlib.Core.Path.{sym, _∙_}
 use lib.ListN.{length}
+use borrow.Author.Needs.{needs}
 use Rattle.base.specs.Places.{written}
 use Rattle.convenc.specs.Puncturing.{punctureRefusal, punctured}
 use Rattle.convenc.proofs.Refusing.{refused, done}
-use native.Mathlib.Omega.{arith}
-use borrow.Author.Needs.{needs}
 use Rattle.convenc.proofs.get_punctured_rate.Statement.{statement}
 use Rattle.convenc.proofs.get_punctured_rate.Tie as tie
 

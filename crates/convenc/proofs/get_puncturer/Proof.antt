@@ -1,8 +1,7 @@
 -- Each field is read of its table.
 use mathlib.Core.Path.{refl}
-use Rattle.convenc.proofs.Walking.{parameters}
-use native.Mathlib.Omega.{arith}
 use borrow.Author.Needs.{needs}
+use Rattle.convenc.proofs.Walking.{parameters}
 use Rattle.convenc.proofs.get_puncturer.Statement.{statement}
 use Rattle.convenc.proofs.get_puncturer.Tie as tie
 
@@ -24,25 +23,9 @@ mul-t14 c = search needs
 array-read-t17 : tie.Need-array-read-t17
 array-read-t17 c = search needs
 
-mul-t19 : tie.Need-mul-t19
-mul-t19 c = search needs
-
-array-read-t22 : tie.Need-array-read-t22
-array-read-t22 c = search needs
-
 returns : tie.Need-returns
-returns c = parameters (c .args .mode) (c .pre) _ refl refl refl refl
+returns c = parameters (c .args .mode) (c .pre) _ refl refl refl
 
 pub get-puncturer-spec : {M : Type 1} → statement M
 get-puncturer-spec =
-    tie.close
-    (tie.spec
-    mul-t4
-    array-read-t7
-    mul-t9
-    array-read-t12
-    mul-t14
-    array-read-t17
-    mul-t19
-    array-read-t22
-    returns)
+    tie.close (tie.spec mul-t4 array-read-t7 mul-t9 array-read-t12 mul-t14 array-read-t17 returns)

@@ -1,11 +1,11 @@
 -- Before place i so many matched, and the rest decides; at the end of the shorter nothing is left.
 use mathlib.Core.Path.{_≡_, sym, ap}
 use Prim.Native.Nat.{_-_, _≤_}
+use native.Mathlib.Omega.{arith}
 use lib.ListN.{drop}
+use borrow.Author.Needs.{needs}
 use Rattle.convenc.specs.Comparing.{compare, compared}
 use Rattle.convenc.proofs.Matching.{plus, matching-none, matching-skips, matching-more, matching-differs, matching-all}
-use native.Mathlib.Omega.{arith}
-use borrow.Author.Needs.{needs}
 use Rattle.convenc.proofs.mother_memcmp.Statement.{statement}
 use Rattle.convenc.proofs.mother_memcmp.Tie as tie
 

@@ -1,8 +1,8 @@
 -- By one or two entries the period's end is passed once at most.
 use mathlib.Core.Path.{refl}
-use Rattle.convenc.proofs.Walking.{moved-stays, moved-wraps}
 use native.Mathlib.Omega.{arith}
 use borrow.Author.Needs.{needs}
+use Rattle.convenc.proofs.Walking.{moved-stays, moved-wraps}
 use Rattle.convenc.proofs.moved.Statement.{statement}
 use Rattle.convenc.proofs.moved.Tie as tie
 

@@ -2,10 +2,10 @@
 use mathlib.Core.Path.{sym, _∙_}
 use Prim.Native.Nat.{_+_, _-_, _*_, _/_, _%_}
 use native.Mathlib.Nat.{div-le-self}
-use Rattle.convenc.proofs.Modes.{needed-none, needed-some}
-use Rattle.convenc.proofs.Walking.{Reads, reads}
 use native.Mathlib.Omega.{arith}
 use borrow.Author.Needs.{needs}
+use Rattle.convenc.proofs.Modes.{needed-none, needed-some}
+use Rattle.convenc.proofs.Walking.{Reads, reads}
 use Rattle.convenc.proofs.needed.Statement.{statement}
 use Rattle.convenc.proofs.needed.Tie as tie
 
@@ -14,7 +14,6 @@ last : (c : tie.After-get-puncturer)
     → Reads
     (c .before .before .args .mode)
     (c .before .before .args .n - 1)
-    (c .get-puncturer .result .start)
     (c .get-puncturer .result .period
     * ((c .before .before .args .n - 1 + (c .before .before .args .n - 1) / c .get-puncturer .result .run) / c .get-puncturer .result .t))
     ((c .before .before .args .n - 1 + (c .before .before .args .n - 1) / c .get-puncturer .result .run) % c .get-puncturer .result .t)
@@ -37,23 +36,26 @@ div-x c = search needs
 add-x : tie.Need-add-x
 add-x c = omega (arith, div-le-self (c .before .before .before .args .n - 1) (c .before .get-puncturer .result .run))
 
-rem-at : tie.Need-rem-at
-rem-at c = search needs
-
-add-at : tie.Need-add-at
-add-at c = omega (arith, last (c .before .before .before) .entry)
+rem-index : tie.Need-rem-index
+rem-index c = search needs
 
 div-result : tie.Need-div-result
 div-result c = search needs
 
 mul-result : tie.Need-mul-result
-mul-result c = omega (arith, last (c .before .before .before .before .before) .near)
+mul-result c = omega (arith, last (c .before .before .before .before) .near)
 
 mul-result-2 : tie.Need-mul-result-2
-mul-result-2 c = omega (arith, last (c .before .before .before .before .before) .entry)
+mul-result-2 c = search needs
 
-array-read-result : tie.Need-array-read-result
-array-read-result c = last (c .before .before .before .before .before) .entry
+index-1-result : tie.Need-index-1-result
+index-1-result c = search needs
+
+index-2-result : tie.Need-index-2-result
+index-2-result c = last (c .before .before .before .before) .entry
+
+cast-result : tie.Need-cast-result
+cast-result c = omega (arith, last (c .before .before .before .before .before) .most)
 
 add-result : tie.Need-add-result
 add-result c = omega (arith, last (c .before .before .before .before .before) .near, last (c .before .before .before .before .before) .most)
@@ -72,11 +74,12 @@ needed-spec =
     sub-j
     div-x
     add-x
-    rem-at
-    add-at
+    rem-index
     div-result
     mul-result
     mul-result-2
-    array-read-result
+    index-1-result
+    index-2-result
+    cast-result
     add-result
     returns-2)

@@ -1,8 +1,8 @@
 -- At the end of a run two entries of P are passed, and otherwise one.
 use Prim.Native.Nat.{_<_}
-use Rattle.convenc.proofs.Walking.{next-skips, next-runs, stands-small}
 use native.Mathlib.Omega.{arith}
 use borrow.Author.Needs.{needs}
+use Rattle.convenc.proofs.Walking.{next-skips, next-runs, stands-small}
 use Rattle.convenc.proofs.next.Statement.{statement}
 use Rattle.convenc.proofs.next.Tie as tie
 

@@ -2,23 +2,23 @@
 use mathlib.Core.Path.{_≡_, refl, ap, ap₂, _∙_}
 use mathlib.Core.List.{List}
 use Prim.Native.Nat.{ℕ, _-_, _≤_}
+use native.Mathlib.Omega.{arith}
 use lib.ListN.{length, getD, set}
-use Rattle.base.specs.Places.{written, gather, scatter}
+use borrow.Author.Needs.{needs}
+use Rattle.base.specs.Places.{written, gather}
 use Rattle.base.proofs.Lists.{write-none, write-more, write-length}
 use Rattle.convenc.specs.Puncturing.{keptPlace, needed}
 use Rattle.convenc.specs.Walk.{Stands}
 use Rattle.convenc.proofs.Refusing.{Moves, moves}
 use Rattle.convenc.proofs.Walking.{Reads, here, reads-place, reads-below, stands-first}
-use native.Mathlib.Omega.{arith}
-use borrow.Author.Needs.{needs}
 use Rattle.convenc.proofs.puncture.Statement.{statement}
 use Rattle.convenc.proofs.puncture.Tie as tie
 
 abbrev Inv-loop : tie.InvT-loop
-Inv-loop mode input len output₀ p kept at₀ j₀ output at j = (j ≤ len) × Stands p j at × (output ≡ written (gather (keptPlace mode) j input) output₀)
+Inv-loop mode input len output₀ p m kept at₀ j₀ output at j = (j ≤ len) × Stands p j at × (output ≡ written (gather (keptPlace mode) j input) output₀)
 
 abbrev μ-loop : tie.MeasureT-loop
-μ-loop mode input len output₀ p kept at₀ j₀ output at j = len - j
+μ-loop mode input len output₀ p m kept at₀ j₀ output at j = len - j
 
 -- nothing is refused
 granted : (c : tie.Start Inv-loop μ-loop)
@@ -30,7 +30,6 @@ reading : (c : tie.In-loop Inv-loop μ-loop)
     → Reads
     (c .before .before .before .before .before .args .mode)
     (c .before .loop .j)
-    (c .before .before .get-puncturer .result .start)
     (c .before .loop .at .base)
     (c .before .loop .at .index)
 reading c =
@@ -54,35 +53,38 @@ loop-holds c =
     let a = c .before .before .before .args in
     (omega arith, stands-first (c .get-puncturer .result) refl refl refl, write-none (λ j. getD (a .input .now) (keptPlace (a .mode) j) 0) (a .output .now))
 
-add-entry : tie.Need-add-entry Inv-loop μ-loop
-add-entry c = omega (arith, reading (c .before .before) .entry)
+mul-from : tie.Need-mul-from Inv-loop μ-loop
+mul-from c = omega (arith, granted (c .before .before .before .before .before) .kind)
 
-mul-place : tie.Need-mul-place Inv-loop μ-loop
-mul-place c = omega (arith, reading (c .before .before) .entry)
+index-1-from : tie.Need-index-1-from Inv-loop μ-loop
+index-1-from c = omega (arith, granted (c .before .before .before .before .before) .kind)
 
-array-read-place : tie.Need-array-read-place Inv-loop μ-loop
-array-read-place c = reading (c .before .before) .entry
+index-2-from : tie.Need-index-2-from Inv-loop μ-loop
+index-2-from c = reading c .entry
 
-add-place : tie.Need-add-place Inv-loop μ-loop
-add-place c = omega (arith, reading (c .before .before .before) .most, reading (c .before .before .before) .near)
+cast-from : tie.Need-cast-from Inv-loop μ-loop
+cast-from c = omega (arith, reading (c .before) .most)
 
-sub-place : tie.Need-sub-place Inv-loop μ-loop
-sub-place c = omega (arith, reading (c .before .before .before) .some)
+add-from : tie.Need-add-from Inv-loop μ-loop
+add-from c = omega (arith, reading (c .before .before) .most, reading (c .before .before) .near)
+
+sub-from : tie.Need-sub-from Inv-loop μ-loop
+sub-from c = omega (arith, reading (c .before .before) .some)
 
 shared-slice-read-output : tie.Need-shared-slice-read-output Inv-loop μ-loop
 shared-slice-read-output c =
-    let i = c .before .before .before .before in
+    let i = c .before .before .before in
     let s = i .before .before .before .before .before in
     reads-below (s .args .len) (length (s .args .input .now)) (reading i) (granted s .kind) (i .loop-test .taken) (granted s .source)
 
 slice-write-output : tie.Need-slice-write-output Inv-loop μ-loop
 slice-write-output c =
-    let i = c .before .before .before .before in
+    let i = c .before .before .before in
     omega (arith, kept-length (i .before), i .loop-test .taken, granted (i .before .before .before .before .before) .target)
 
 next-requires : tie.Need-next-requires Inv-loop μ-loop
 next-requires c κs =
-    let i = c .before .before .before .before in
+    let i = c .before .before .before in
     let g = i .before .before in
     (g .get-puncturer .ensures .sound, i .before .loop .inv .1, omega (arith, i .loop-test .taken, granted (g .before .before .before) .limit))
 
@@ -94,7 +96,7 @@ loop-less c = search needs
 
 loop-again : tie.Need-loop-again Inv-loop μ-loop
 loop-again c =
-    let i = c .before .before .before .before .before in
+    let i = c .before .before .before .before in
     let l = i .before .loop in
     let s = i .before .before .before .before .before in (
       omega arith,
@@ -122,11 +124,12 @@ puncture-spec =
     μ-loop
     get-puncturer-requires
     loop-holds
-    add-entry
-    mul-place
-    array-read-place
-    add-place
-    sub-place
+    mul-from
+    index-1-from
+    index-2-from
+    cast-from
+    add-from
+    sub-from
     shared-slice-read-output
     slice-write-output
     next-requires

@@ -1,10 +1,9 @@
 -- The refusal's number decides; without one the work below is done.
 use mathlib.Core.Path.{sym, _∙_}
 use lib.ListN.{length}
+use borrow.Author.Needs.{needs}
 use Rattle.convenc.specs.Puncturing.{depunctureRefusal, depunctured}
 use Rattle.convenc.proofs.Refusing.{refused, done}
-use native.Mathlib.Omega.{arith}
-use borrow.Author.Needs.{needs}
 use Rattle.convenc.proofs.tetra_rcpc_depunct.Statement.{statement}
 use Rattle.convenc.proofs.tetra_rcpc_depunct.Tie as tie
 

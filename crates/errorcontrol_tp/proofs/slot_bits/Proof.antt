@@ -17,41 +17,43 @@ use Rattle.errorcontrol_tp.proofs.channel_bits.Reads as channel-bits-re
 use Rattle.errorcontrol_tp.proofs.class2_bits.Reads as class2-bits-reads
 use Rattle.errorcontrol_tp.proofs.mother_bits.Reads as mother-bits-reads
 
--- src/lib.rt:229:9
+-- src/lib.rt:235:9
 channel-bits-requires : tie.Need-channel-bits-requires
 channel-bits-requires c κs = search needs
 
--- src/lib.rt:230:39
+-- src/lib.rt:236:40
 class2-bits-requires : tie.Need-class2-bits-requires
 class2-bits-requires c κs = search needs
 
--- src/lib.rt:230:9
+-- src/lib.rt:236:9
 mother-bits-requires : tie.Need-mother-bits-requires
 mother-bits-requires c κs =
     let a = c .before .before .before in
     let plain = subst (λ (l : List ℕ). Bits l) (sym (c .before .channel-bits .ensures)) (channel-plain kept 0 (a .args .codec .now) (a .pre .0) (a .pre .1)) in
     (plain, class2-plain (c .before .channel-bits .result) (c .class2-bits .result) plain (c .class2-bits .ensures))
 
--- src/lib.rt:231:21
+-- src/lib.rt:239:21
 block-bits-requires : tie.Need-block-bits-requires
 block-bits-requires c κs = search needs
 
--- src/lib.rt:231:5
+-- src/lib.rt:239:5
 air-bits-requires : tie.Need-air-bits-requires
 air-bits-requires c κs =
-    let a = c .before .before .before .before .before in
-    let channel = c .before .before .before .channel-bits in
+    let a = c .before .before .before .before .before .before .before in
+    let channel = c .before .before .before .before .before .channel-bits in
+    let mothers = c .before .before .before .mother-bits in
     let plain = subst (λ (l : List ℕ). Bits l) (sym (channel .ensures)) (channel-plain kept 0 (a .args .codec .now) (a .pre .0) (a .pre .1)) in
     subst (λ (l : List ℕ). Bits l)
-    (sym (block-is (channel .result) (c .before .before .class2-bits .result) (c .before .mother-bits .result) (c .block-bits .result) (c .before .before .class2-bits .ensures) (c .before .mother-bits .ensures) (c .block-bits .ensures)))
+    (sym (block-is (channel .result) (c .before .before .before .before .class2-bits .result) (mothers .result .first) (mothers .result .second) (c .block-bits .result) (search needs) (c .before .before .before .before .class2-bits .ensures) (mothers .ensures) (c .block-bits .ensures)))
     (block-plain (channel .result) (search needs) plain)
 
--- src/lib.rt:225:1
+-- src/lib.rt:231:1
 returns : tie.Need-returns
 returns c =
-    let a = c .before .before .before .before .before .before .args in
-    slot-is (a .start) (a .codec .now) (c .before .before .before .before .channel-bits .result) (c .before .before .before .class2-bits .result) (c .before .before .mother-bits .result) (c .before .block-bits .result) (c .air-bits .result)
-    (c .before .before .before .before .channel-bits .ensures) (c .before .before .before .class2-bits .ensures) (c .before .before .mother-bits .ensures) (c .before .block-bits .ensures) (c .air-bits .ensures)
+    let a = c .before .before .before .before .before .before .before .before .args in
+    let mothers = c .before .before .before .before .mother-bits in
+    slot-is (a .start) (a .codec .now) (c .before .before .before .before .before .before .channel-bits .result) (c .before .before .before .before .before .class2-bits .result) (mothers .result .first) (mothers .result .second) (c .before .block-bits .result) (c .air-bits .result)
+    (search needs) (c .before .before .before .before .before .before .channel-bits .ensures) (c .before .before .before .before .before .class2-bits .ensures) (mothers .ensures) (c .before .block-bits .ensures) (c .air-bits .ensures)
 
 pub slot-bits-spec : {M : Type 1} → statement M
 slot-bits-spec =

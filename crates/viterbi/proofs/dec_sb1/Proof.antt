@@ -1,13 +1,13 @@
 -- The table is the control code's.
 use borrow.Author.Needs.{needs}
 use Rattle.convenc.specs.Generators.{control, tapped}
-use Rattle.viterbi.proofs.Tables.{controlTable, control-table, control-tells}
+use Rattle.viterbi.proofs.Tables.{powersTable, powers-table, controlTable, control-table, control-tells}
 use Rattle.viterbi.proofs.dec_sb1.Statement.{statement}
 use Rattle.viterbi.proofs.dec_sb1.Tie as tie
 
 decode-requires : tie.Need-decode-requires
-unfolding controlTable tapped
-decode-requires c κs = control-table
+unfolding powersTable controlTable tapped
+decode-requires c κs = (powers-table, control-table)
 
 same-length : tie.Need-same-length
 same-length c = search needs

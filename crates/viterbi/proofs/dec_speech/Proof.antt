@@ -1,13 +1,13 @@
 -- The table is the speech code's.
 use borrow.Author.Needs.{needs}
 use Rattle.convenc.specs.Generators.{speech, tapped}
-use Rattle.viterbi.proofs.Tables.{speechTable, speech-table, speech-tells}
+use Rattle.viterbi.proofs.Tables.{powersTable, powers-table, speechTable, speech-table, speech-tells}
 use Rattle.viterbi.proofs.dec_speech.Statement.{statement}
 use Rattle.viterbi.proofs.dec_speech.Tie as tie
 
 decode-requires : tie.Need-decode-requires
-unfolding speechTable tapped
-decode-requires c κs = speech-table
+unfolding powersTable speechTable tapped
+decode-requires c κs = (powers-table, speech-table)
 
 same-length : tie.Need-same-length
 same-length c = search needs

@@ -1,9 +1,8 @@
 -- The refusal's number decides; without one the work below is done.
 use mathlib.Core.Path.{sym, _∙_}
+use borrow.Author.Needs.{needs}
 use Rattle.convenc.specs.Generators.{controlThird}
 use Rattle.convenc.proofs.Refusing.{encoded-refused, encoded-done}
-use native.Mathlib.Omega.{arith}
-use borrow.Author.Needs.{needs}
 use Rattle.convenc.proofs.ConvEncState.encode_rate1_3.Statement.{statement}
 use Rattle.convenc.proofs.ConvEncState.encode_rate1_3.Tie as tie
 

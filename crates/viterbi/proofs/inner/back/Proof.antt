@@ -6,8 +6,6 @@ use borrow.Author.Needs.{needs}
 use Rattle.viterbi.proofs.Walks.{Walked, walked-none, walked-back, walked-all}
 use Rattle.viterbi.proofs.inner.back.Statement.{statement}
 use Rattle.viterbi.proofs.inner.back.Tie as tie
-use Rattle.viterbi.proofs.inner.back.Reads as reads
-use Rattle.viterbi.proofs.inner.back.Lts as lts
 
 abbrev Inv-loop : tie.InvT-loop
 Inv-loop n trellis₀ target₀ i₀ s₀ trellis target i s = (i ≤ n) × Walked n i s trellis₀ trellis target₀ target
@@ -36,14 +34,8 @@ mul-s-2 c = search needs
 slice-read-s : tie.Need-slice-read-s Inv-loop μ-loop
 slice-read-s c = search needs
 
-cast-s : tie.Need-cast-s Inv-loop μ-loop
-cast-s c = search needs
-
 shr-s : tie.Need-shr-s Inv-loop μ-loop
 shr-s c = search needs
-
-cast-s-2 : tie.Need-cast-s-2 Inv-loop μ-loop
-cast-s-2 c = search needs
 
 add-s : tie.Need-add-s Inv-loop μ-loop
 add-s c = search needs
@@ -90,9 +82,7 @@ back-spec =
     mul-s
     mul-s-2
     slice-read-s
-    cast-s
     shr-s
-    cast-s-2
     add-s
     mul-trellis
     slice-write-trellis

@@ -1,67 +1,113 @@
--- Entry s is the branch score of state s.
-use Prim.Native.Nat.{ℕ, _-_, _≤_, _<_}
-use mathlib.Core.Path.{_≡_, refl, _∙_}
-use native.Mathlib.Omega.{arith}
+-- Each symbol's class picks its row of its generator.
+use mathlib.Core.Path.{_∙_}
 use borrow.Author.Needs.{needs}
-use lib.IntN.{pos}
-use lib.ListN.{length, getD, length-set}
-use Rattle.viterbi.specs.Scores.{branchOf}
-use Rattle.viterbi.proofs.Sixteen.{filled-more}
-use Rattle.viterbi.proofs.Branches.{branch-reads}
+use Rattle.viterbi.proofs.Branches.{rows-branch}
 use Rattle.viterbi.proofs.inner.branches.Statement.{statement}
 use Rattle.viterbi.proofs.inner.branches.Tie as tie
-use Rattle.viterbi.proofs.inner.branches.Reads as reads
-use Rattle.viterbi.proofs.inner.branches.Lts as lts
 
-abbrev Inv-loop : tie.InvT-loop
-Inv-loop expected k source at b₀ s₀ b s =
-    (s ≤ 16) × (length b ≡ 16) × ((j : ℕ) → j < s → getD b j (pos 0) ≡ branchOf expected k source at j)
+shared-slice-read-class : tie.Need-shared-slice-read-class
+shared-slice-read-class c = search needs
 
-abbrev μ-loop : tie.MeasureT-loop
-μ-loop expected k source at b₀ s₀ b s = 16 - s
+class-requires : tie.Need-class-requires
+class-requires c κs = search needs
 
-loop-holds : tie.Need-loop-holds Inv-loop μ-loop
-loop-holds c = (omega arith, refl, λ j h. absurd (omega arith))
+add-class : tie.Need-add-class
+add-class c = search needs
 
-branch-requires : tie.Need-branch-requires Inv-loop μ-loop
-branch-requires c κs = search needs
+shared-slice-read-class-2 : tie.Need-shared-slice-read-class-2
+shared-slice-read-class-2 c = search needs
 
-mul-b : tie.Need-mul-b Inv-loop μ-loop
-mul-b c = search needs
+class-requires-2 : tie.Need-class-requires-2
+class-requires-2 c κs = search needs
 
-array-set-from-b : tie.Need-array-set-from-b Inv-loop μ-loop
-array-set-from-b c = search needs
+add-class-2 : tie.Need-add-class-2
+add-class-2 c = search needs
 
-add-s : tie.Need-add-s Inv-loop μ-loop
-add-s c = search needs
+shared-slice-read-class-3 : tie.Need-shared-slice-read-class-3
+shared-slice-read-class-3 c = search needs
 
-loop-less : tie.Need-loop-less Inv-loop μ-loop
-loop-less c = search needs
+class-requires-3 : tie.Need-class-requires-3
+class-requires-3 c κs = search needs
 
-loop-again : tie.Need-loop-again Inv-loop μ-loop
-loop-again c =
-    let a = c .before .before .before .before in
-    let l = c .before .before .loop in (
-      omega arith,
-      length-set (l .b) (l .s) _ ∙ l .inv .1,
-      filled-more (branchOf (a .args .expected) (a .args .k) (a .args .source .now) (a .args .at)) (l .b) (l .s) _ (omega arith) (l .inv .2)
-          (branch-reads (a .args .k) (a .args .expected) (a .pre .0) (a .args .source .now) (a .args .at) (l .s) (omega arith) (c .branch .result) (c .branch .ensures)),
-    )
+sub-class : tie.Need-sub-class
+sub-class c = search needs
 
-returns : tie.Need-returns Inv-loop μ-loop
-returns c = λ s h. c .before .loop .inv .2 s (omega arith)
+add-class-3 : tie.Need-add-class-3
+add-class-3 c = search needs
+
+shared-slice-read-class-4 : tie.Need-shared-slice-read-class-4
+shared-slice-read-class-4 c = search needs
+
+class-requires-4 : tie.Need-class-requires-4
+class-requires-4 c κs = search needs
+
+mul-sums : tie.Need-mul-sums
+mul-sums c = search needs
+
+element-copy-out-sums : tie.Need-element-copy-out-sums
+element-copy-out-sums c = search needs
+
+mul-sums-2 : tie.Need-mul-sums-2
+mul-sums-2 c = search needs
+
+element-copy-out-sums-2 : tie.Need-element-copy-out-sums-2
+element-copy-out-sums-2 c = search needs
+
+mul-sums-3 : tie.Need-mul-sums-3
+mul-sums-3 c = search needs
+
+element-copy-out-sums-3 : tie.Need-element-copy-out-sums-3
+element-copy-out-sums-3 c = search needs
+
+mul-sums-4 : tie.Need-mul-sums-4
+mul-sums-4 c = search needs
+
+element-copy-out-sums-4 : tie.Need-element-copy-out-sums-4
+element-copy-out-sums-4 c = search needs
+
+sums-requires : tie.Need-sums-requires
+sums-requires c κs =
+    let a = c .before .before .before .before .before .before .before .before .before .before .before .before .before in
+    let p = c .before .before .before .before .before .before .before .before .before .before .class in
+    let q = c .before .before .before .before .before .before .before .before .class2 in
+    let r = c .before .before .before .before .before .before .class3 in
+    let o = c .before .before .before .before .class4 in
+    (a .pre .0 (p .result) (p .ensures .1), a .pre .1 (q .result) (q .ensures .1), a .pre .2 (r .result) (r .ensures .1), a .pre .3 (o .result) (o .ensures .1))
+
+returns : tie.Need-returns
+returns c t ha hb hc hd s h =
+    let a = c .before .before .before .before .before .before .before .before .before .before .before .before .before .before .args in
+    let p = c .before .before .before .before .before .before .before .before .before .before .before .class in
+    let q = c .before .before .before .before .before .before .before .before .before .class2 in
+    let r = c .before .before .before .before .before .before .before .class3 in
+    let o = c .before .before .before .before .before .class4 in
+    c .sums .ensures s h
+    ∙ rows-branch (a .k) t (a .source .now) (a .at) s h (a .a .now) (a .b .now) (a .c .now) (a .d .now) (p .result) (q .result) (r .result) (o .result)
+    (p .ensures .0) (q .ensures .0) (r .ensures .0) (o .ensures .0) ha hb hc hd
 
 pub branches-spec : {M : Type 1} → statement M
 branches-spec =
     tie.close
     (tie.spec
-    Inv-loop
-    μ-loop
-    loop-holds
-    branch-requires
-    mul-b
-    array-set-from-b
-    add-s
-    loop-less
-    loop-again
+    shared-slice-read-class
+    class-requires
+    add-class
+    shared-slice-read-class-2
+    class-requires-2
+    add-class-2
+    shared-slice-read-class-3
+    class-requires-3
+    sub-class
+    add-class-3
+    shared-slice-read-class-4
+    class-requires-4
+    mul-sums
+    element-copy-out-sums
+    mul-sums-2
+    element-copy-out-sums-2
+    mul-sums-3
+    element-copy-out-sums-3
+    mul-sums-4
+    element-copy-out-sums-4
+    sums-requires
     returns)

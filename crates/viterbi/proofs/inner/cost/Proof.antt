@@ -1,5 +1,4 @@
 -- The score and the known symbols make twice the cost.
-use native.Mathlib.Omega.{arith}
 use borrow.Author.Needs.{needs}
 use Rattle.viterbi.proofs.Counts.{twice-fits, twice-counts, cost-is}
 use Rattle.viterbi.proofs.inner.cost.Statement.{statement}

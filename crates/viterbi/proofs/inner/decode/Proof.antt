@@ -1,5 +1,4 @@
 -- A refusal changes nothing; without one the decoder runs.
-use mathlib.Core.Path.{_≡_}
 use native.Mathlib.Omega.{arith}
 use borrow.Author.Needs.{needs}
 use lib.ListN.{length}
@@ -7,10 +6,6 @@ use Rattle.viterbi.proofs.Refusals.{accepts-rate}
 use Rattle.viterbi.proofs.Answers.{refused}
 use Rattle.viterbi.proofs.inner.decode.Statement.{statement}
 use Rattle.viterbi.proofs.inner.decode.Tie as tie
-use Rattle.viterbi.proofs.inner.decode.Reads as reads
-use Rattle.viterbi.proofs.inner.decode.Lts as lts
-use Rattle.viterbi.proofs.inner.refusal.Reads as refusal-reads
-use Rattle.viterbi.proofs.inner.run.Reads as run-reads
 
 refusal-requires : tie.Need-refusal-requires
 refusal-requires c κs = search needs
@@ -26,7 +21,7 @@ run-requires c κs =
     let a = c .before .before .before .before .before .before .before in
     let r = c .before .before .before .refusal in
     let h = accepts-rate (a .args .n) (length (a .args .source .now)) (length (a .args .trellis .now)) (length (a .args .target .now)) (a .args .k) (r .result) (r .ensures) (omega arith) in
-    (a .pre, h .0, h .1, h .2, h .3)
+    (a .pre .0, a .pre .1, h .0, h .1, h .2, h .3)
 
 same-length : tie.Need-same-length
 same-length c = search needs

@@ -1,11 +1,8 @@
 -- Each answer is the first that applies.
 use native.Mathlib.Omega.{arith}
-use borrow.Author.Needs.{needs}
 use Rattle.viterbi.proofs.Refusals.{limit, short, no-trellis, no-target, none, symbols-le}
 use Rattle.viterbi.proofs.inner.refusal.Statement.{statement}
 use Rattle.viterbi.proofs.inner.refusal.Tie as tie
-use Rattle.viterbi.proofs.inner.refusal.Reads as reads
-use Rattle.viterbi.proofs.inner.refusal.Lts as lts
 
 returns : tie.Need-returns
 returns c code rate =

@@ -1,0 +1,45 @@
+-- What a record is answered with: the chain of its kind, on its scrambling start and its symbols.
+-- Assumes nothing.
+use mathlib.Core.List.{List}
+use Prim.Native.Nat.{ℕ, _+_, _*_}
+use lib.Dec.{ltb, eqb}
+use lib.ListN.{length, getD, drop}
+use Rattle.base.specs.Refusal.{SHORT, KIND}
+use Rattle.base.specs.declared.Received.{Received}
+use Rattle.base.specs.declared.Received.the-variants as received
+use Rattle.records.specs.Kinds.{symbolsOf, START-BYTES}
+use Rattle.records.specs.Recording.{pick}
+use Rattle.rm3014.specs.declared.Judged.{Judged}
+use Rattle.rm3014.specs.declared.Judged.the-variants as judged
+use Rattle.errorcontrol_aach.specs.Access.{decoded}
+use Rattle.answers.specs.Chains.{controlAnswer, slotAnswer, halfAnswer}
+use Rattle.answers.specs.declared.Answer.{Answer}
+use Rattle.answers.specs.declared.Answer.the-variants.{Good, Bad, Aach, Refused}
+
+-- the scrambling start: the first four bytes of a body, the most significant first
+unfoldable pub startOf : List ℕ → ℕ
+startOf body = ((getD body 0 0 * 256 + getD body 1 0) * 256 + getD body 2 0) * 256 + getD body 3 0
+
+-- a receive chain's answer, as the record's
+abbrev pub ofReceived : Received → Answer
+ofReceived (received.Good counts) = Good counts
+ofReceived (received.Bad counts) = Bad counts
+ofReceived (received.Refused number) = Refused number
+
+-- the AACH chain's answer, as the record's
+abbrev pub ofJudged : Judged → Answer
+ofJudged (judged.Is verdict) = Aach verdict
+ofJudged (judged.Refused number) = Refused number
+
+-- the chain of a known kind: 05 is AACH, 06 a whole speech slot, 07 its second half, and the others are control
+unfoldable pub chainOf : ℕ → ℕ → List ℕ → Answer
+chainOf kind start air =
+    pick (eqb kind 5) (ofJudged (decoded start air))
+    (pick (eqb kind 6) (ofReceived (slotAnswer start air))
+    (pick (eqb kind 7) (ofReceived (halfAnswer start air)) (ofReceived (controlAnswer kind start air))))
+
+-- the answer to a record of the kind with the body: KIND where the kind is not known, SHORT where the start is not there, and otherwise its chain's
+unfoldable pub answerOf : ℕ → List ℕ → Answer
+answerOf kind body =
+    pick (eqb (symbolsOf kind) 0) (Refused KIND)
+    (pick (ltb (length body) START-BYTES) (Refused SHORT) (chainOf kind (startOf body) (drop START-BYTES body)))

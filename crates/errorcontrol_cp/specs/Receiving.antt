@@ -1,0 +1,59 @@
+-- Receiving a control block: the stages of sending undone in reverse, with every place that puncturing dropped an erasure.
+-- Assumes nothing.
+use mathlib.Core.List.{List}
+use mathlib.Core.Bool.{Bool, not}
+use mathlib.Core.Path.{_≡_}
+use Prim.Native.Nat.{ℕ, _+_, _*_}
+use lib.Dec.{ltb, eqb}
+use lib.ListN.{length, take, replicate}
+use Rattle.base.specs.declared.Counts.{Counts}
+use Rattle.base.specs.declared.Received.{Received}
+use Rattle.base.specs.Refusal.{SHORT, ROOM, KIND, accepted, when, unless, reception}
+use Rattle.base.specs.Bits.{ERASED}
+use Rattle.base.specs.Places.{written}
+use Rattle.crc16.specs.Crc.{register, OK}
+use Rattle.convenc.specs.Generators.{control}
+use Rattle.convenc.specs.Puncturing.{depunctured}
+use Rattle.interleaver.specs.Interleaving.{deinterleaved}
+use Rattle.scrambler.specs.Scrambling.{descrambled}
+use Rattle.viterbi.specs.Decoding.{decoded, disagreements, cleared}
+use Rattle.errorcontrol_cp.specs.Kinds.{isKind, dataBits, wordBits, airSymbols, interleaverStep}
+use Rattle.errorcontrol_cp.specs.Sending.{MODE}
+
+-- the air symbols that are used
+abbrev pub heard : ℕ → List ℕ → List ℕ
+heard kind air = take (airSymbols kind) air
+
+-- the mother symbols that the decoder is given, four for each bit of the word
+unfoldable pub mother : ℕ → ℕ → List ℕ → List ℕ
+mother kind start air =
+    depunctured MODE (airSymbols kind) (deinterleaved (airSymbols kind) (interleaverStep kind) (descrambled start (heard kind air)))
+    (replicate (4 * wordBits kind) ERASED)
+
+-- the decoded word: data, check and tail
+unfoldable pub wordFrom : ℕ → ℕ → List ℕ → List ℕ
+wordFrom kind start air = decoded control (wordBits kind) (mother kind start air)
+
+-- the unerased symbols that the decoded word disagrees with
+unfoldable pub disagreementsOf : ℕ → ℕ → List ℕ → ℕ
+disagreementsOf kind start air = disagreements control (wordBits kind) (mother kind start air) (wordFrom kind start air)
+
+-- what is counted of a received block
+abbrev pub countsOf : ℕ → ℕ → List ℕ → Counts
+countsOf kind start air = record { disagreements = disagreementsOf kind start air }
+
+-- whether the register over a word's data and check, the tail left out, ends as it does after data and its own check
+unfoldable pub good : ℕ → List ℕ → Bool
+good kind w = eqb (register 0xffff (take (dataBits kind + 16) w)) OK
+
+-- START comes last in document 01's order and stands in no chain here: the walk back always ends in state 0, so it is never given
+abbrev pub receiveRefusal : ℕ → ℕ → ℕ → ℕ → ℕ
+receiveRefusal kind air word trellis =
+    when (not (isKind kind)) KIND
+    (when (ltb air (airSymbols kind)) SHORT (when (ltb word (wordBits kind)) ROOM (when (ltb trellis (wordBits kind)) ROOM accepted)))
+
+-- what `decode_cp` answers and leaves in its target and in the trellis: a Bad word is written too
+pub record Receives (kind start : ℕ) (air word trellis : List ℕ) (answer : Received) (word′ trellis′ : List ℕ) : Type 0 where
+  pub answered : answer ≡ reception (receiveRefusal kind (length air) (length word) (length trellis)) (good kind (wordFrom kind start air)) (countsOf kind start air)
+  pub target : word′ ≡ unless (receiveRefusal kind (length air) (length word) (length trellis)) (written (wordFrom kind start air) word) word
+  pub clears : trellis′ ≡ unless (receiveRefusal kind (length air) (length word) (length trellis)) (cleared (wordBits kind) trellis) trellis

@@ -1,0 +1,46 @@
+-- Sending a control block: data, 16 check bits and 4 zeros; the control mother code; mode 2_3; the block interleaver; the scrambler.
+-- Assumes nothing.
+use mathlib.Core.List.{List, [], _∷_, _++_}
+use mathlib.Core.Bool.{not}
+use mathlib.Core.Path.{_≡_}
+use Prim.Native.Nat.{ℕ}
+use lib.Dec.{ltb}
+use lib.ListN.{length, take, replicate}
+use Rattle.base.specs.declared.Outcome.{Outcome}
+use Rattle.base.specs.Refusal.{SHORT, ROOM, BIT, KIND, accepted, when, unless, outcome}
+use Rattle.base.specs.Bits.{bitsOnly}
+use Rattle.base.specs.Places.{written}
+use Rattle.trellis.specs.Nearest.{encode}
+use Rattle.crc16.specs.Crc.{check}
+use Rattle.convenc.specs.Generators.{control, outputs}
+use Rattle.convenc.specs.Puncturing.{punctured}
+use Rattle.interleaver.specs.Interleaving.{interleaved}
+use Rattle.scrambler.specs.Scrambling.{scrambled}
+use Rattle.errorcontrol_cp.specs.Kinds.{isKind, dataBits, airSymbols, interleaverStep}
+
+-- the word of a data block: the data, its check, four zeros
+abbrev pub wordOf : List ℕ → List ℕ
+wordOf block = block ++ check block ++ (0 ∷ 0 ∷ 0 ∷ 0 ∷ [])
+
+-- puncturing mode 2_3
+abbrev pub MODE : ℕ
+MODE = 0
+
+-- the coded symbols of a word: those that mode 2_3 keeps of its mother code from the zero state
+unfoldable pub coded : ℕ → List ℕ → List ℕ
+coded kind w = punctured MODE (airSymbols kind) (encode (outputs control) 0 w)
+
+-- the air symbols that a word is sent as
+unfoldable pub sent : ℕ → ℕ → List ℕ → List ℕ
+sent kind start w = scrambled start (interleaved (airSymbols kind) (interleaverStep kind) (coded kind w) (replicate (airSymbols kind) 0))
+
+abbrev pub sendRefusal : ℕ → List ℕ → ℕ → ℕ
+sendRefusal kind block air =
+    when (not (isKind kind)) KIND
+    (when (ltb (length block) (dataBits kind)) SHORT
+    (when (ltb air (airSymbols kind)) ROOM (when (not (bitsOnly (dataBits kind) block)) BIT accepted)))
+
+-- what `encode_cp` answers and leaves in its target
+pub record Sends (kind start : ℕ) (block air : List ℕ) (answer : Outcome) (air′ : List ℕ) : Type 0 where
+  pub answered : answer ≡ outcome (sendRefusal kind block (length air))
+  pub target : air′ ≡ unless (sendRefusal kind block (length air)) (written (sent kind start (wordOf (take (dataBits kind) block))) air) air

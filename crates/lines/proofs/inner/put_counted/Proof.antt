@@ -1,0 +1,34 @@
+-- A word, a space and a number, one after the other.
+use mathlib.Core.List.{[], _∷_, _++_}
+use native.Mathlib.Omega.{arith}
+use borrow.Author.Needs.{needs}
+use lib.ListN.{length, length-append}
+use Rattle.lines.specs.Text.{decimal}
+use Rattle.lines.specs.Lines.{space, counted}
+use Rattle.lines.proofs.Placing.{put-then}
+use Rattle.lines.proofs.Laws.{counted-length}
+use Rattle.lines.proofs.inner.put_counted.Statement.{statement}
+use Rattle.lines.proofs.inner.put_counted.Tie as tie
+
+put-text-requires : tie.Need-put-text-requires
+put-text-requires c κs = omega (arith, counted-length (c .before .before .before .args .word .now) (c .before .before .before .args .n))
+
+put-byte-requires : tie.Need-put-byte-requires
+put-byte-requires c κs = omega (arith, counted-length (c .before .before .before .before .before .before .before .args .word .now) (c .before .before .before .before .before .before .before .args .n), c .before .before .before .put-text .ensures .ends)
+
+put-decimal-requires : tie.Need-put-decimal-requires
+put-decimal-requires c κs =
+    omega (arith, counted-length (c .before .before .before .before .before .before .before .before .before .before .before .args .word .now) (c .before .before .before .before .before .before .before .before .before .before .before .args .n), c .before .before .before .before .before .before .before .put-text .ensures .ends, c .before .before .before .put-byte .ensures .ends)
+
+same-length : tie.Need-same-length
+same-length c = search needs
+
+returns : tie.Need-returns
+unfolding counted
+returns c =
+    put-then (omega arith) (put-then (omega arith) (c .before .before .before .before .before .before .before .before .before .before .put-text .ensures) (c .before .before .before .before .before .before .put-byte .ensures)) (c .before .before .put-decimal .ensures)
+
+pub put-counted-spec : {M : Type 1} → statement M
+put-counted-spec =
+    tie.close
+    (tie.spec put-text-requires put-byte-requires put-decimal-requires same-length returns)

@@ -1,0 +1,29 @@
+-- A word, a place, a space and four digits, one after the other.
+use native.Mathlib.Omega.{arith}
+use borrow.Author.Needs.{needs}
+use Rattle.lines.specs.Lines.{judged}
+use Rattle.lines.proofs.Laws.{judged-length}
+use Rattle.lines.proofs.Placing.{put-then}
+use Rattle.lines.proofs.inner.put_judged.Statement.{statement}
+use Rattle.lines.proofs.inner.put_judged.Tie as tie
+
+put-counted-requires : tie.Need-put-counted-requires
+put-counted-requires c κs = omega (arith, judged-length (c .before .before .before .args .word .now) (c .before .before .before .args .place) (c .before .before .before .args .contents))
+
+put-byte-requires : tie.Need-put-byte-requires
+put-byte-requires c κs = omega (arith, judged-length (c .before .before .before .before .before .before .before .args .word .now) (c .before .before .before .before .before .before .before .args .place) (c .before .before .before .before .before .before .before .args .contents), c .before .before .before .put-counted .ensures .ends)
+
+put-hex-requires : tie.Need-put-hex-requires
+put-hex-requires c κs =
+    omega (arith, judged-length (c .before .before .before .before .before .before .before .before .before .before .before .args .word .now) (c .before .before .before .before .before .before .before .before .before .before .before .args .place) (c .before .before .before .before .before .before .before .before .before .before .before .args .contents), c .before .before .before .before .before .before .before .put-counted .ensures .ends, c .before .before .before .put-byte .ensures .ends)
+
+same-length : tie.Need-same-length
+same-length c = search needs
+
+returns : tie.Need-returns
+unfolding judged
+returns c =
+    put-then (omega arith) (put-then (omega arith) (c .before .before .before .before .before .before .before .before .before .before .put-counted .ensures) (c .before .before .before .before .before .before .put-byte .ensures)) (c .before .before .put-hex .ensures)
+
+pub put-judged-spec : {M : Type 1} → statement M
+put-judged-spec = tie.close (tie.spec put-counted-requires put-byte-requires put-hex-requires same-length returns)

@@ -1,0 +1,26 @@
+use Rattle.records.proofs.Laws.{symbols-none, symbols-table}
+use native.Mathlib.Omega.{arith}
+use borrow.Author.Needs.{needs}
+use Rattle.records.proofs.symbols.Statement.{statement}
+use Rattle.records.proofs.symbols.Tie as tie
+use Rattle.records.proofs.symbols.Reads as reads
+use Rattle.records.proofs.symbols.Lts as lts
+
+-- src/lib.rt:33:9
+returns : tie.Need-returns
+returns c = symbols-none (c .before .args .kind) (c .if1 .taken)
+
+-- src/lib.rt:36:5
+mul-result : tie.Need-mul-result
+mul-result c = search needs
+
+-- src/lib.rt:36:5
+array-read-result : tie.Need-array-read-result
+array-read-result c = search needs
+
+-- src/lib.rt:29:1
+returns-2 : tie.Need-returns-2
+returns-2 c = symbols-table (c .before .args .kind)
+
+pub symbols-spec : {M : Type 1} → statement M
+symbols-spec = tie.close (tie.spec returns mul-result array-read-result returns-2)

@@ -1,0 +1,45 @@
+// What the runner says on standard error beside failures.
+use libc::STDERR_FILENO;
+
+// There is no number for another line.
+pub fn too_many() {
+    io::write_all(STDERR_FILENO, b"runner: too many records\n");
+}
+
+// How many bytes have come since the last report, and how many megabytes were reported.
+pub struct Meter {
+    pub since: u64,
+    pub megabytes: u64,
+}
+
+// A report is made once in so many bytes, which are so many megabytes.
+const REPORT: u64 = 67108864;
+
+const MEGABYTES: u64 = 64;
+
+fn report(count: u64, megabytes: u64) {
+    io::write_all(STDERR_FILENO, b"runner: ");
+    io::print_decimal(STDERR_FILENO, count);
+    io::write_all(STDERR_FILENO, b" records, ");
+    io::print_decimal(STDERR_FILENO, megabytes);
+    io::write_all(STDERR_FILENO, b" megabytes\n");
+}
+
+// On long input a line now and then, where standard error is a terminal.
+pub fn metered(meter: Meter, bytes: usize, count: u64) -> Meter {
+    let since = std::num::wrapping_add_u64(meter.since, bytes as u64);
+    if since < REPORT {
+        return Meter {
+            since: since,
+            megabytes: meter.megabytes,
+        };
+    }
+    let megabytes = std::num::wrapping_add_u64(meter.megabytes, MEGABYTES);
+    if libc::isatty(STDERR_FILENO) == 1 {
+        report(count, megabytes);
+    }
+    Meter {
+        since: since - REPORT,
+        megabytes: megabytes,
+    }
+}

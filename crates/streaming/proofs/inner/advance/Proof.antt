@@ -1,0 +1,51 @@
+-- A step, and what it did not take moved to the front.
+use mathlib.Core.Path.{_≡_, sym, ap, _∙_}
+use Prim.Native.Nat.{ℕ, _-_}
+use lib.ListN.{length, take}
+use lib.Seq.{length-take-le}
+use Rattle.streaming.proofs.Keeping.{taken-in, advanced}
+use native.Mathlib.Omega.{arith}
+use borrow.Author.Needs.{needs}
+use Rattle.streaming.proofs.inner.advance.Statement.{statement}
+use Rattle.streaming.proofs.inner.advance.Tie as tie
+
+slice-reshare-prefix-step : tie.Need-slice-reshare-prefix-step
+slice-reshare-prefix-step c = search needs
+
+slice-aggregate-step : tie.Need-slice-aggregate-step
+slice-aggregate-step c = sym (length-take-le (c .before .before .before .args .fill) (c .before .before .before .args .buf .now) (search needs))
+
+step-requires : tie.Need-step-requires
+step-requires c κs = search needs
+
+keep-requires : tie.Need-keep-requires
+keep-requires c κs =
+    let a = c .before .before .before .before .before .before .before .before .args in
+    let m = length-take-le (a .fill) (a .buf .now) (search needs) in
+    (omega (arith, taken-in (take (a .fill) (a .buf .now)) (a .count) (a .out .now) (c .before .before .before .step .ensures), m), search needs)
+
+same-length : tie.Need-same-length
+same-length c = search needs
+
+same-length-2 : tie.Need-same-length-2
+same-length-2 c = search needs
+
+returns : tie.Need-returns
+returns c =
+    let a = c .before .before .before .before .before .before .before .before .before .before .before .args in
+    let m = length-take-le (a .fill) (a .buf .now) (search needs) in
+    advanced (take (a .fill) (a .buf .now)) (a .count) (a .out .now) (c .before .before .before .before .before .before .step .ensures)
+    (c .before .before .keep .last .0) (c .before .before .before .before .before .before .step .kept .1 .1 .0) (omega (arith, c .before .before .keep .ensures .0, m))
+    (ap (λ (n : ℕ). take (n - c .before .before .before .before .before .before .step .result .taken) (c .before .before .keep .last .0)) m ∙ c .before .before .keep .ensures .1)
+
+pub advance-spec : {M : Type 1} → statement M
+advance-spec =
+    tie.close
+    (tie.spec
+    slice-reshare-prefix-step
+    slice-aggregate-step
+    step-requires
+    keep-requires
+    same-length
+    same-length-2
+    returns)

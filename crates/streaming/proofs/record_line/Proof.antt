@@ -1,0 +1,62 @@
+-- The answer to the body, and its line.
+use mathlib.Core.Path.{_≡_}
+use Prim.Native.Nat.{_+_, _-_}
+use Rattle.streaming.proofs.Turns.{line-of}
+use native.Mathlib.Omega.{arith}
+use borrow.Author.Needs.{needs}
+use Rattle.streaming.proofs.record_line.Statement.{statement}
+use Rattle.streaming.proofs.record_line.Tie as tie
+
+add-from : tie.Need-add-from
+add-from c = search needs
+
+add-end : tie.Need-add-end
+add-end c = search needs
+
+symbols-requires : tie.Need-symbols-requires
+symbols-requires c κs = search needs
+
+add-end-2 : tie.Need-add-end-2
+add-end-2 c = search needs
+
+sub-answer-to : tie.Need-sub-answer-to
+sub-answer-to c = search needs
+
+part-answer-to-start : tie.Need-part-answer-to-start
+part-answer-to-start c = search needs
+
+part-answer-to-end : tie.Need-part-answer-to-end
+part-answer-to-end c = search needs
+
+answer-to-requires : tie.Need-answer-to-requires
+answer-to-requires c κs = search needs
+
+put-record-requires : tie.Need-put-record-requires
+put-record-requires c κs = search needs
+
+same-length : tie.Need-same-length
+same-length c = search needs
+
+returns : tie.Need-returns
+returns c =
+    let a = c .before .before .before .before .before .before .before .before .before .args in
+    let m = c .before .before .before .before .before .before .symbols .result in (
+      line-of _ (a .kind) (a .place) (a .place + 1 + 4 + m - (a .place + 1)) (a .s .now) (c .before .before .before .before .answer-to .ensures) (omega (arith, c .before .before .before .before .before .before .symbols .ensures)) (c .before .before .put-record .ensures .0),
+      c .before .before .put-record .ensures .1,
+    )
+
+pub record-line-spec : {M : Type 1} → statement M
+record-line-spec =
+    tie.close
+    (tie.spec
+    add-from
+    add-end
+    symbols-requires
+    add-end-2
+    sub-answer-to
+    part-answer-to-start
+    part-answer-to-end
+    answer-to-requires
+    put-record-requires
+    same-length
+    returns)
