@@ -1,0 +1,36 @@
+use mathlib.Core.Path.{sym, ap, _∙_}
+use borrow.Author.Needs.{needs}
+use Rattle.caplattice.specs.Packing.{codedNumber}
+use Rattle.caplattice.proofs.packing.coded_number.Statement.{statement}
+use Rattle.caplattice.proofs.packing.coded_number.Tie as tie
+
+enum-known-answer : tie.Need-enum-known-answer
+enum-known-answer c = search needs
+
+pack-requires : tie.Need-pack-requires
+pack-requires c κs = search needs
+
+enum-known-answer-2 : tie.Need-enum-known-answer-2
+enum-known-answer-2 c = search needs
+
+pack-requires-2 : tie.Need-pack-requires-2
+pack-requires-2 c κs = search needs
+
+returns : tie.Need-returns
+unfolding codedNumber
+returns c = c .pack .ensures ∙ ap codedNumber (sym (c .before .before .answer .given .1))
+
+returns-2 : tie.Need-returns-2
+unfolding codedNumber
+returns-2 c = c .pack2 .ensures ∙ ap codedNumber (sym (c .before .before .answer2 .given .1))
+
+pub coded-number-spec : {M : Type 1} → statement M
+coded-number-spec =
+    tie.close
+    (tie.spec
+    enum-known-answer
+    pack-requires
+    enum-known-answer-2
+    pack-requires-2
+    returns
+    returns-2)

@@ -1,0 +1,41 @@
+use mathlib.Core.Path.{sym, ap, _∙_}
+use Prim.Native.Nat.{ℕ}
+use Rattle.caplattice.specs.Packing.{DONE, packed, decodedNumber}
+use borrow.Author.Needs.{needs}
+use Rattle.caplattice.proofs.packing.decoded_number.Statement.{statement}
+use Rattle.caplattice.proofs.packing.decoded_number.Tie as tie
+
+enum-known-answer : tie.Need-enum-known-answer
+enum-known-answer c = search needs
+
+count-of-requires : tie.Need-count-of-requires
+count-of-requires c κs = search needs
+
+pack-requires : tie.Need-pack-requires
+pack-requires c κs = search needs
+
+enum-known-answer-2 : tie.Need-enum-known-answer-2
+enum-known-answer-2 c = search needs
+
+pack-requires-2 : tie.Need-pack-requires-2
+pack-requires-2 c κs = search needs
+
+returns : tie.Need-returns
+unfolding decodedNumber
+returns c = c .pack .ensures ∙ ap (λ (n : ℕ). packed DONE n 0) (c .before .count-of .ensures) ∙ ap decodedNumber (sym (c .before .before .before .answer .given .1))
+
+returns-2 : tie.Need-returns-2
+unfolding decodedNumber
+returns-2 c = c .pack2 .ensures ∙ ap decodedNumber (sym (c .before .before .answer2 .given .1))
+
+pub decoded-number-spec : {M : Type 1} → statement M
+decoded-number-spec =
+    tie.close
+    (tie.spec
+    enum-known-answer
+    count-of-requires
+    pack-requires
+    enum-known-answer-2
+    pack-requires-2
+    returns
+    returns-2)

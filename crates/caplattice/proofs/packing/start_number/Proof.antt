@@ -1,0 +1,36 @@
+use mathlib.Core.Path.{sym, ap, _∙_}
+use borrow.Author.Needs.{needs}
+use Rattle.caplattice.specs.Packing.{startNumber}
+use Rattle.caplattice.proofs.packing.start_number.Statement.{statement}
+use Rattle.caplattice.proofs.packing.start_number.Tie as tie
+
+enum-known-answer : tie.Need-enum-known-answer
+enum-known-answer c = search needs
+
+pack-requires : tie.Need-pack-requires
+pack-requires c κs = search needs
+
+enum-known-answer-2 : tie.Need-enum-known-answer-2
+enum-known-answer-2 c = search needs
+
+pack-requires-2 : tie.Need-pack-requires-2
+pack-requires-2 c κs = search needs
+
+returns : tie.Need-returns
+unfolding startNumber
+returns c = c .pack .ensures ∙ ap startNumber (sym (c .before .before .answer .given .1))
+
+returns-2 : tie.Need-returns-2
+unfolding startNumber
+returns-2 c = c .pack2 .ensures ∙ ap startNumber (sym (c .before .before .answer2 .given .1))
+
+pub start-number-spec : {M : Type 1} → statement M
+start-number-spec =
+    tie.close
+    (tie.spec
+    enum-known-answer
+    pack-requires
+    enum-known-answer-2
+    pack-requires-2
+    returns
+    returns-2)
