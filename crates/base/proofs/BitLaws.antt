@@ -3,10 +3,13 @@
 use mathlib.Core.Path.{_≡_, refl, sym, ap, ap₂, _∙_}
 use mathlib.Core.List.{List, [], _∷_, _++_}
 use mathlib.Core.Bool.{Bool, true, false, cond}
-use Prim.Native.Nat.{ℕ, zero, suc, _+_, _-_, _%_, _≤_, _<_}
+use Prim.Native.Nat.{ℕ, zero, suc, _+_, _-_, _≤_, _<_}
 use native.Mathlib.Omega.{arith}
 use native.Mathlib.Numerals.{add-one}
-use lib.ListN.{length, take, drop, getD}
+use lib.Bits.{bitOr, or-lt, or-add-and, and-le-l, and-le-r}
+use lib.Dec.{ltb}
+use borrow.Author.Tests.{ltb-true, ltb-false, le-ltb}
+use lib.ListN.{length, take, getD}
 use Rattle.base.specs.Bits.{both, Bits, isBit, bitsOnly, disagrees, known}
 use Rattle.base.specs.Places.{tabulate}
 
@@ -33,30 +36,45 @@ both-true : (a b : Bool) → both a b ≡ true → (a ≡ true) × (b ≡ true)
 both-true true b e = (refl, e)
 both-true false b e = no-true e
 
--- ---- a loop that tests entry i
-pub bits-only-none : (s : List ℕ) → bitsOnly 0 s ≡ true
-bits-only-none s = refl
+-- below 2 is a bit
+pub is-bit-test : (b : ℕ) → ltb b 2 ≡ isBit b
+is-bit-test zero = refl
+is-bit-test (suc zero) = refl
+is-bit-test (suc (suc b)) = le-ltb (suc (suc b)) 2 (omega arith)
 
-pub bits-only-more : (i : ℕ) (s : List ℕ) → i < length s → bitsOnly i s ≡ true → getD s i 0 < 2 → bitsOnly (i + 1) s ≡ true
-bits-only-more i s h e b = rw add-one (more i s h e b)
+-- the bitwise or of two entries is a bit where both are
+pub is-bit-or : (a b : ℕ) → isBit (bitOr a b) ≡ both (isBit a) (isBit b)
+is-bit-or a b = go (ltb a 2) refl (ltb b 2) refl
   where
-    more : (i : ℕ) (s : List ℕ) → i < length s → bitsOnly i s ≡ true → getD s i 0 < 2 → bitsOnly (suc i) s ≡ true
-    more i [] h e b = refl
-    more zero (a ∷ s) h e b = ap (λ (t : Bool). both t true) (is-bit-yes a b)
-    more (suc i) (a ∷ s) h e b =
-        let p = both-true (isBit a) (bitsOnly i s) e in
-        ap₂ both (p .0) (more i s (omega arith) (p .1) b)
+    go : (s : Bool) → ltb a 2 ≡ s → (t : Bool) → ltb b 2 ≡ t → isBit (bitOr a b) ≡ both (isBit a) (isBit b)
+    go true e true f =
+        is-bit-yes (bitOr a b) (or-lt 1 a b (ltb-true a 2 e) (ltb-true b 2 f))
+        ∙ sym (ap₂ both (is-bit-yes a (ltb-true a 2 e)) (is-bit-yes b (ltb-true b 2 f)))
+    go true e false f =
+        is-bit-no (bitOr a b) (omega (arith, or-add-and a b, and-le-l a b, ltb-false b 2 f))
+        ∙ sym (ap₂ both (is-bit-yes a (ltb-true a 2 e)) (is-bit-no b (ltb-false b 2 f)))
+    go false e t f =
+        is-bit-no (bitOr a b) (omega (arith, or-add-and a b, and-le-r a b, ltb-false a 2 e))
+        ∙ sym (ap (λ (x : Bool). both x (isBit b)) (is-bit-no a (ltb-false a 2 e)))
 
--- an entry that is no bit fails the test
-pub bits-only-no : (n i : ℕ) (s : List ℕ) → i < n → i < length s → 1 < getD s i 0 → bitsOnly n s ≡ false
-bits-only-no zero i s h k b = absurd (omega arith)
-bits-only-no (suc n) i [] h k b = absurd (omega arith)
-bits-only-no (suc n) zero (a ∷ s) h k b = ap (λ (t : Bool). both t (bitsOnly n s)) (is-bit-no a b)
-bits-only-no (suc n) (suc i) (a ∷ s) h k b = last (isBit a) (bits-only-no n i s (omega arith) (omega arith) b)
+-- ---- a loop that takes entry i in
+pub bits-only-more : (i : ℕ) (s : List ℕ) → i < length s → both (bitsOnly i s) (isBit (getD s i 0)) ≡ bitsOnly (i + 1) s
+bits-only-more i s h = rw add-one (more i s h)
   where
-    last : (t : Bool) → bitsOnly n s ≡ false → both t (bitsOnly n s) ≡ false
-    last true e = e
-    last false e = refl
+    swapped : (a b : Bool) → both a b ≡ both b a
+    swapped true true = refl
+    swapped true false = refl
+    swapped false true = refl
+    swapped false false = refl
+
+    grouped : (a b c : Bool) → both (both a b) c ≡ both a (both b c)
+    grouped true b c = refl
+    grouped false b c = refl
+
+    more : (i : ℕ) (s : List ℕ) → i < length s → both (bitsOnly i s) (isBit (getD s i 0)) ≡ bitsOnly (suc i) s
+    more i [] h = absurd (omega arith)
+    more zero (a ∷ s) h = swapped true (isBit a)
+    more (suc i) (a ∷ s) h = grouped (isBit a) (bitsOnly i s) (isBit (getD s i 0)) ∙ ap (both (isBit a)) (more i s (omega arith))
 
 -- each of the entries is a bit where the test holds
 pub bits-only-at : (n i : ℕ) (s : List ℕ) → bitsOnly n s ≡ true → i < n → i < length s → getD s i 0 < 2

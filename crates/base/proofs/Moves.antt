@@ -1,16 +1,16 @@
 -- Entries moved from place to place: scattering and gathering by the same places undo each other.
 -- Assumes nothing.
 use mathlib.Core.Path.{_≡_, refl, sym, ap, ap₂, _∙_}
-use mathlib.Core.List.{List, [], _∷_, _++_}
+use mathlib.Core.List.{List}
 use mathlib.Core.Bool.{Bool, true, false}
 use Prim.Native.Nat.{ℕ, zero, suc, _+_, _-_, _≤_, _<_}
 use native.Mathlib.Numerals.{add-one}
 use native.Mathlib.Omega.{arith}
 use lib.Dec.{eqb, ltb}
 use borrow.Author.Tests.{eqb-true, eqb-false, ltb-true, ltb-false}
-use lib.ListN.{length, take, drop, getD, set, length-set, length-drop, length-append, List·getD-append}
-use lib.Seq.{ext-getD, getD-set-same, getD-set-other, getD-take, length-take-le, getD-drop, getD-append-add}
-use Rattle.base.specs.Places.{tabulate, written, gather, scatter, Apart, Within}
+use lib.ListN.{length, take, drop, getD, set, replicate, length-replicate, length-set, length-drop, length-append, List·getD-append}
+use lib.Seq.{ext-getD, set-comm, getD-set-same, getD-set-other, getD-take, length-take-le, getD-drop, getD-append-add}
+use Rattle.base.specs.Places.{written, gather, scatter, Apart, Within}
 use Rattle.base.proofs.Lists.{tabulate-length, tabulate-at, tabulate-same, tabulate-of}
 
 pub gather-length : (place : ℕ → ℕ) (n : ℕ) (src : List ℕ) → length (gather place n src) ≡ n
@@ -43,6 +43,27 @@ unfolding scatter
 scatter-same p q zero src dst h = refl
 scatter-same p q (suc n) src dst h =
     ap₂ (λ (l : List ℕ) (x : ℕ). set l x (getD src n 0)) (scatter-same p q n src dst (λ i k. h i (omega arith))) (h n (omega arith))
+
+-- what is scattered in two pieces
+pub scatter-join : (place : ℕ → ℕ) (n m : ℕ) (src dst : List ℕ)
+    → scatter (λ i. place (n + i)) m (drop n src) (scatter place n src dst) ≡ scatter place (n + m) src dst
+unfolding scatter
+scatter-join place n zero src dst =
+    let e : n ≡ n + 0 = omega arith in
+    ap (λ (k : ℕ). scatter place k src dst) e
+scatter-join place n (suc m) src dst =
+    let e : suc (n + m) ≡ n + suc m = omega arith in
+    ap₂ (λ (l : List ℕ) (x : ℕ). set l (place (n + m)) x) (scatter-join place n m src dst) (getD-drop n src m 0)
+    ∙ ap (λ (k : ℕ). scatter place k src dst) e
+
+-- an entry put where nothing goes, before or after
+pub scatter-set : (place : ℕ → ℕ) (n : ℕ) (src dst : List ℕ) (x v : ℕ) → ((i : ℕ) → i < n → place i ≡ x → ⊥)
+    → set (scatter place n src dst) x v ≡ scatter place n src (set dst x v)
+unfolding scatter
+scatter-set place zero src dst x v h = refl
+scatter-set place (suc n) src dst x v h =
+    set-comm (scatter place n src dst) (place n) x (getD src n 0) v (h n (omega arith))
+    ∙ ap (λ (l : List ℕ). set l (place n) (getD src n 0)) (scatter-set place n src dst x v (λ i k. h i (omega arith)))
 
 -- a place that nothing goes to keeps its entry
 pub scatter-miss : (place : ℕ → ℕ) (n : ℕ) (src dst : List ℕ) (x : ℕ) → ((i : ℕ) → i < n → place i ≡ x → ⊥)
@@ -135,6 +156,22 @@ scatter-over place n src blank dst a w o l h =
         scatter-miss place n src dst x (λ i p q. omega (arith, w i p, ltb-false x n e))
         ∙ sym (ap (λ (y : ℕ). getD (written front dst) y 0) s ∙ getD-append-add front (drop (length front) dst) (x - n) 0
         ∙ getD-drop (length front) dst (x - n) 0 ∙ ap (λ (y : ℕ). getD dst y 0) (sym s))
+
+-- scattering by the places that lead back is gathering
+pub scatter-back : (place back : ℕ → ℕ) (n : ℕ) (src dst : List ℕ) → Apart back n → Within back n n → Within place n n
+    → ((x : ℕ) → x < n → back (place x) ≡ x) → n ≤ length dst → scatter back n src dst ≡ written (gather place n src) dst
+scatter-back place back n src dst a w v u h =
+    scatter-over back n src blank dst a w (λ x k. (place x, v x k, u x k)) long h
+    ∙ ap (λ (l : List ℕ). written l dst)
+    (tabulate-of (scatter back n src blank) (λ i. getD src (place i) 0) n (scatter-length back n src blank ∙ long)
+    (λ x k. ap (λ (y : ℕ). getD (scatter back n src blank) y 0) (sym (u x k))
+    ∙ scatter-hit back n src blank a (λ i p. omega (arith, w i p, long)) (place x) (v x k)))
+  where
+    blank : List ℕ
+    blank = replicate n 0
+
+    long : length blank ≡ n
+    long = length-replicate {A = ℕ} n 0
 
 -- ---- scattering reads only the front of its source
 -- sources that agree below n scatter the same

@@ -36,10 +36,11 @@ xor-odd a b = omega (arith, xor-step a b, differ-bit (a % 2) (b % 2) (omega arit
 pub by-digits : (a b : ℕ) → a / 2 ≡ b / 2 → a % 2 ≡ b % 2 → a ≡ b
 by-digits a b p q = omega arith
 
+-- a summand counts by its lowest digit alone
 odd-l : (u t c : ℕ) → u % 2 ≡ t % 2 → (u + c) % 2 ≡ (t + c) % 2
 odd-l u t c e = omega arith
 
-odd-r : (u t c : ℕ) → u % 2 ≡ t % 2 → (c + u) % 2 ≡ (c + t) % 2
+pub odd-r : (u t c : ℕ) → u % 2 ≡ t % 2 → (c + u) % 2 ≡ (c + t) % 2
 odd-r u t c e = omega arith
 
 odd-three : (a b c u v : ℕ) → u % 2 ≡ (a + b) % 2 → v % 2 ≡ (b + c) % 2 → (u + c) % 2 ≡ (a + v) % 2

@@ -9,14 +9,13 @@ pub fn bits_only(s: &[u8], n: usize) -> bool
     requires { ⌜ n ≤ length (now s) ⌝ }
     ensures { λ r. ⌜ r ≡ bitsOnly n (now (s .entry)) ⌝ }
 {
+    let mut all: u8 = 0;
     let mut i: usize = 0;
     while i < n {
-        if 1 < s[i] {
-            return false;
-        }
+        all |= s[i];
         i += 1;
     }
-    true
+    all < 2
 }
 
 // The front of the source over the whole target.

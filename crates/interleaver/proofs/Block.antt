@@ -50,45 +50,43 @@ block-accepted k a src dst h =
 pub block-within : (k a : ℕ) → Within (place k a) k k
 block-within k a i h = mod-lt (a * (i + 1)) (omega arith)
 
-wrapped : (k u v : ℕ) → u < k → v < k → (t : Bool) → ltb (u + v) k ≡ t → cond t (u + v) (u + v - k + 0) ≡ (u + v) % k
+wrapped : (k u v : ℕ) → u < k → v < k → (t : Bool) → ltb (u + v) k ≡ t → cond t (u + v) (u + v - k) ≡ (u + v) % k
 wrapped k u v p q true e = sym (mod-eq-of-lt (ltb-true (u + v) k e))
 wrapped k u v p q false e =
     let h : k ≤ u + v = ltb-false (u + v) k e in
-    let s : u + v - k + 0 ≡ u + v - k = omega arith in
     let l : u + v - k < k = omega arith in
-    s ∙ sym (mod-eq-sub-mod h ∙ mod-eq-of-lt l)
+    sym (mod-eq-sub-mod h ∙ mod-eq-of-lt l)
 
-place-next : (k a i : ℕ) → 0 < k → onward (a % k) k 0 (place k a i) ≡ place k a (i + 1)
+place-next : (k a i : ℕ) → 0 < k → onward (a % k) k (place k a i) ≡ place k a (i + 1)
 place-next k a i p =
     wrapped k (place k a i) (a % k) (mod-lt (a * (i + 1)) p) (mod-lt a p) (ltb (place k a i + a % k) k) refl
     ∙ sym (add-mod (a * (i + 1)) a k)
     ∙ ap (λ (n : ℕ). n % k) (sym (mul-add a (i + 1) 1 ∙ ap (λ (n : ℕ). a * (i + 1) + n) (mul-one a)))
 
-pub block-walk : (k a step i : ℕ) → step ≡ a % k → i < k → walk step step k 0 i ≡ place k a i
+pub block-walk : (k a step i : ℕ) → step ≡ a % k → i < k → walk step step k i ≡ place k a i
 block-walk k a step i e h =
-    ap (λ (s : ℕ). walk s s k 0 i) e
-    ∙ walk-along (place k a) (a % k) (a % k) k 0 (λ _. ap (λ (n : ℕ). n % k) (sym (mul-one a))) (λ j l. place-next k a j (omega arith)) i h
+    ap (λ (s : ℕ). walk s s k i) e
+    ∙ walk-along (place k a) (a % k) (a % k) k (λ _. ap (λ (n : ℕ). n % k) (sym (mul-one a))) (λ j l. place-next k a j (omega arith)) i h
 
 -- ---- what the loops ask and leave
-pub block-ready : (k a step src dst : ℕ) → step ≡ a % k → blockRefusal k a src dst ≡ 0 → Ready step step k 0 src dst
+pub block-ready : (k a step src dst : ℕ) → step ≡ a % k → blockRefusal k a src dst ≡ 0 → Ready step step k src dst
 block-ready k a step src dst e h =
     let fits = block-accepted k a src dst h in
     record {
       small-step = omega (arith, mod-le a k, fits .number);
       small-count = fits .count;
-      small-carry = omega arith;
       long = fits .long;
       room = fits .room;
       stays = λ i l. omega (arith, block-walk k a step i e l, block-within k a i l);
     }
 
-pub block-spread : (k a step : ℕ) (src dst : List ℕ) → step ≡ a % k → scatter (walk step step k 0) k src dst ≡ interleaved k a src dst
-block-spread k a step src dst e = scatter-same (walk step step k 0) (place k a) k src dst (λ i l. block-walk k a step i e l)
+pub block-spread : (k a step : ℕ) (src dst : List ℕ) → step ≡ a % k → scatter (walk step step k) k src dst ≡ interleaved k a src dst
+block-spread k a step src dst e = scatter-same (walk step step k) (place k a) k src dst (λ i l. block-walk k a step i e l)
 
 pub block-collect : (k a step : ℕ) (src dst : List ℕ) → step ≡ a % k
-    → written (gather (walk step step k 0) k src) dst ≡ written (deinterleaved k a src) dst
+    → written (gather (walk step step k) k src) dst ≡ written (deinterleaved k a src) dst
 block-collect k a step src dst e =
-    ap (λ (l : List ℕ). written l dst) (gather-same (walk step step k 0) (place k a) k src (λ i l. block-walk k a step i e l))
+    ap (λ (l : List ℕ). written l dst) (gather-same (walk step step k) (place k a) k src (λ i l. block-walk k a step i e l))
 
 -- ---- a permutation where nothing is shared
 times-remainder : (x y k : ℕ) → x * (y % k) % k ≡ x * y % k

@@ -2,31 +2,23 @@
 -- Assumes nothing.
 use mathlib.Core.Path.{_≡_, refl, sym, ap, ap₂, _∙_}
 use mathlib.Core.List.{List}
-use mathlib.Core.Bool.{Bool, true, false, cond}
-use Prim.Native.Nat.{ℕ, zero, suc, _+_, _*_, _-_, _/_, _%_, _≤_, _<_}
-use native.Mathlib.Nat.{mod-lt, zero-mod, zero-div, zero-mul, mul-zero, mul-comm, add-mul, one-mul, div-add-mod', div-lt-iff-lt-mul}
+use Prim.Native.Nat.{ℕ, zero, suc, _+_, _*_, _/_, _%_, _≤_, _<_}
+use native.Mathlib.Nat.{mod-lt, mul-zero, mul-comm, add-mul, one-mul, mul-le-mul-right, div-add-mod', div-lt-iff-lt-mul}
 use native.Mathlib.Omega.{arith}
 use lib.Arith.{digits-lt, digits-div, digits-mod}
 use lib.Dec.{ltb}
-use borrow.Author.Tests.{ltb-true, ltb-false, lt-ltb, le-ltb}
-use lib.ListN.{length, take}
+use borrow.Author.Tests.{ltb-false}
+use lib.ListN.{length, take, drop, getD, set}
+use lib.Seq.{getD-drop}
 use Rattle.base.specs.Refusal.{LIMIT, SHORT, ROOM, accepted, when}
 use Rattle.base.specs.Places.{written, gather, scatter, Apart, Within}
-use Rattle.base.proofs.Moves.{Onto, gather-same, scatter-same, gather-scatter, scatter-gather, gather-length}
-use Rattle.interleaver.specs.Interleaving.{turned, matrixRefusal, matrixInterleaved, matrixDeinterleaved}
-use Rattle.interleaver.specs.Walk.{onward, walk, Ready}
+use Rattle.base.proofs.Moves.{Onto, scatter-same, scatter-join, scatter-set, scatter-back, gather-scatter, scatter-gather, scatter-written, gather-length}
 use Rattle.base.proofs.Refusals.{passed}
-use Rattle.base.proofs.Moves.{scatter-written}
-use Rattle.interleaver.proofs.Walk.{walk-along}
+use Rattle.interleaver.specs.Interleaving.{turned, matrixRefusal, matrixInterleaved, matrixDeinterleaved}
+use Rattle.interleaver.specs.Lines.{MatrixFits, lineMoved}
+use Rattle.interleaver.proofs.Walk.{spread-more}
 
 -- ---- what no refusal says
-pub record MatrixFits (lines columns src dst : ℕ) : Type 0 where
-  pub few-lines : lines ≤ 4096
-  pub few-columns : columns ≤ 4096
-  pub count : lines * columns ≤ 4096
-  pub long : lines * columns ≤ src
-  pub room : lines * columns ≤ dst
-
 pub matrix-accepted : (lines columns src dst : ℕ) → matrixRefusal lines columns src dst ≡ 0 → MatrixFits lines columns src dst
 matrix-accepted lines columns src dst h =
     let n = lines * columns in
@@ -81,71 +73,98 @@ matrix-onto lines columns x h =
     let l : x < columns * lines = omega arith in
     (turned columns lines x, omega (arith, turned-below columns lines x l), turned-back columns lines x l)
 
--- ---- the places by adding
-module _ (lines columns x : ℕ) (h : x < lines * columns) where
-  abbrev line : ℕ
-  line = x / columns
+-- ---- a line of the source
+pub one-more : (n m : ℕ) → (n + 1) * m ≡ n * m + m
+one-more n m = add-mul n 1 m ∙ ap (λ (x : ℕ). n * m + x) (one-mul m)
 
-  abbrev column : ℕ
-  column = x % columns
-
-  turned-next : onward lines (lines * columns) 1 (turned lines columns x) ≡ turned lines columns (x + 1)
-  turned-next = go (ltb (column + 1) columns) refl
-    where
-      x-is : line * columns + column ≡ x
-      x-is = div-add-mod' x columns
-
-      further : (column + 1) * lines ≡ column * lines + lines
-      further = add-mul column 1 lines ∙ ap (λ (n : ℕ). column * lines + n) (one-mul lines)
-
-      go : (t : Bool) → ltb (column + 1) columns ≡ t → onward lines (lines * columns) 1 (turned lines columns x) ≡ turned lines columns (x + 1)
-      go true e =
-          let l = ltb-true (column + 1) columns e in
-          let x-next : x + 1 ≡ line * columns + (column + 1) = omega (arith, x-is) in
-          let inside : turned lines columns x + lines < lines * columns = omega (arith, further, digits-lt l (line-below lines columns x h), mul-comm lines columns) in
-          ap (λ (t : Bool). cond t (turned lines columns x + lines) (turned lines columns x + lines - lines * columns + 1)) (lt-ltb _ _ inside)
-          ∙ omega (arith, further)
-          ∙ sym (ap (λ (n : ℕ). turned lines columns n) x-next
-          ∙ ap₂ (λ (c l : ℕ). c * lines + l) (digits-mod line l) (digits-div line l))
-      go false e =
-          let c : column + 1 ≡ columns = omega (arith, ltb-false (column + 1) columns e, column-below lines columns x h) in
-          let x-next : x + 1 ≡ (line + 1) * columns + 0 = omega (arith, x-is, c, add-mul line 1 columns, one-mul columns) in
-          let full : (column + 1) * lines ≡ lines * columns = ap (λ (n : ℕ). n * lines) c ∙ mul-comm columns lines in
-          let outside : lines * columns ≤ turned lines columns x + lines = omega (arith, further, full) in
-          ap (λ (t : Bool). cond t (turned lines columns x + lines) (turned lines columns x + lines - lines * columns + 1)) (le-ltb _ _ outside)
-          ∙ omega (arith, further, full, zero-mul lines)
-          ∙ sym (ap (λ (n : ℕ). turned lines columns n) x-next
-          ∙ ap₂ (λ (c l : ℕ). c * lines + l) (digits-mod (line + 1) (some-columns lines columns x h)) (digits-div (line + 1) (some-columns lines columns x h)))
-
-pub matrix-walk : (lines columns i : ℕ) → i < lines * columns → walk 0 lines (lines * columns) 1 i ≡ turned lines columns i
-matrix-walk lines columns =
-    walk-along (turned lines columns) 0 lines (lines * columns) 1
-    (λ _. sym (ap₂ (λ (c l : ℕ). c * lines + l) (zero-mod columns) (zero-div columns) ∙ omega (arith, zero-mul lines)))
-    (λ j l. turned-next lines columns j (omega arith))
-
--- ---- what the loops ask and leave
-pub matrix-ready : (lines columns src dst : ℕ) → matrixRefusal lines columns src dst ≡ 0 → Ready 0 lines (lines * columns) 1 src dst
-matrix-ready lines columns src dst h =
-    let fits = matrix-accepted lines columns src dst h in
+-- what fits as lines fits as columns
+pub fits-turned : (lines columns src dst : ℕ) → MatrixFits lines columns src dst → MatrixFits columns lines src dst
+fits-turned lines columns src dst fits =
+    let e = mul-comm lines columns in
     record {
-      small-step = omega (arith, fits .few-lines);
-      small-count = fits .count;
-      small-carry = omega arith;
-      long = fits .long;
-      room = fits .room;
-      stays = λ i l. omega (arith, matrix-walk lines columns i l, matrix-within lines columns i l);
+      few-lines = fits .few-columns;
+      few-columns = fits .few-lines;
+      count = omega (arith, fits .count);
+      long = omega (arith, fits .long);
+      room = omega (arith, fits .room);
     }
 
-pub matrix-spread : (lines columns : ℕ) (src dst : List ℕ)
-    → scatter (walk 0 lines (lines * columns) 1) (lines * columns) src dst ≡ matrixInterleaved lines columns src dst
-matrix-spread lines columns src dst =
-    scatter-same (walk 0 lines (lines * columns) 1) (turned lines columns) (lines * columns) src dst (matrix-walk lines columns)
+module _ (lines columns line : ℕ) (inside : line < lines) where
+  -- where the line ends in the source
+  pub line-ends : line * columns + columns ≤ lines * columns
+  line-ends = omega (arith, one-more line columns, mul-le-mul-right columns inside)
 
-pub matrix-collect : (lines columns : ℕ) (src dst : List ℕ)
-    → written (gather (walk 0 lines (lines * columns) 1) (lines * columns) src) dst ≡ written (matrixDeinterleaved lines columns src) dst
-matrix-collect lines columns src dst =
-    ap (λ (l : List ℕ). written l dst)
-    (gather-same (walk 0 lines (lines * columns) 1) (turned lines columns) (lines * columns) src (matrix-walk lines columns))
+  -- where the line's entry i goes
+  pub target-below : (i : ℕ) → i < columns → i * lines + line < lines * columns
+  target-below i h = omega (arith, digits-lt h inside, mul-comm lines columns)
+
+  -- the lines before it and the line
+  pub line-more : (src dst : List ℕ)
+      → lineMoved lines columns line src (scatter (turned lines columns) (line * columns) src dst) ≡ scatter (turned lines columns) ((line + 1) * columns) src dst
+  line-more src dst =
+      scatter-same (λ i. i * lines + line) (λ i. turned lines columns (line * columns + i)) columns (drop (line * columns) src) (scatter (turned lines columns) (line * columns) src dst)
+      (λ i h. sym (ap₂ (λ (c l : ℕ). c * lines + l) (digits-mod line h) (digits-div line h)))
+      ∙ scatter-join (turned lines columns) (line * columns) columns src dst
+      ∙ ap (λ (n : ℕ). scatter (turned lines columns) n src dst) (sym (one-more line columns))
+
+-- and the next line
+pub pair-more : (lines columns line : ℕ) → line + 1 < lines → (src dst : List ℕ)
+    → lineMoved lines columns (line + 1) src (lineMoved lines columns line src (scatter (turned lines columns) (line * columns) src dst))
+    ≡ scatter (turned lines columns) ((line + 2) * columns) src dst
+pair-more lines columns line inside src dst =
+    let two : line + 1 + 1 ≡ line + 2 = omega arith in
+    ap (lineMoved lines columns (line + 1) src) (line-more lines columns line (omega arith) src dst)
+    ∙ line-more lines columns (line + 1) inside src dst
+    ∙ ap (λ (n : ℕ). scatter (turned lines columns) (n * columns) src dst) two
+
+pub next-ends : (lines columns line : ℕ) → line + 1 < lines → line * columns + columns + columns ≤ lines * columns
+next-ends lines columns line inside = omega (arith, line-ends lines columns (line + 1) inside, one-more line columns)
+
+-- ---- a turn of the loop over a line
+pub line-turn : (lines line i at : ℕ) (src dst out : List ℕ) (first : ℕ) → at ≡ i * lines + line → out ≡ scatter (λ k. k * lines + line) i (drop first src) dst
+    → set out at (getD src (first + i) 0) ≡ scatter (λ k. k * lines + line) (i + 1) (drop first src) dst
+line-turn lines line i at src dst out first e was =
+    ap (set out at) (sym (getD-drop first src i 0)) ∙ spread-more (λ k. k * lines + line) i at (drop first src) dst out e was
+
+-- two lines that stand side by side share no place
+beside : (lines line k i : ℕ) → line + 1 < lines → k * lines + (line + 1) ≡ i * lines + line → ⊥
+beside lines line k i h e =
+    let l : line < lines = omega arith in
+    omega (arith, sym (digits-mod k h) ∙ ap (λ (x : ℕ). x % lines) e ∙ digits-mod i l)
+
+pub pair-turn : (lines line i at : ℕ) (src dst out : List ℕ) (first second : ℕ) → line + 1 < lines → at ≡ i * lines + line
+    → out ≡ scatter (λ k. k * lines + (line + 1)) i (drop second src) (scatter (λ k. k * lines + line) i (drop first src) dst)
+    → set (set out at (getD src (first + i) 0)) (at + 1) (getD src (second + i) 0)
+    ≡ scatter (λ k. k * lines + (line + 1)) (i + 1) (drop second src) (scatter (λ k. k * lines + line) (i + 1) (drop first src) dst)
+pair-turn lines line i at src dst out first second h e was =
+    line-turn lines (line + 1) i (at + 1) src (scatter (λ k. k * lines + line) (i + 1) (drop first src) dst) (set out at v) second (omega arith) once
+  where
+    v : ℕ
+    v = getD src (first + i) 0
+
+    half : List ℕ
+    half = scatter (λ k. k * lines + line) i (drop first src) dst
+
+    once : set out at v ≡ scatter (λ k. k * lines + (line + 1)) i (drop second src) (scatter (λ k. k * lines + line) (i + 1) (drop first src) dst)
+    once =
+        ap (λ (l : List ℕ). set l at v) was
+        ∙ scatter-set (λ k. k * lines + (line + 1)) i (drop second src) half at v (λ k p q. beside lines line k i h (q ∙ e))
+        ∙ ap (scatter (λ k. k * lines + (line + 1)) i (drop second src)) (line-turn lines line i at src dst half first e refl)
+
+pub at-more : (lines line i at : ℕ) → at ≡ i * lines + line → at + lines ≡ (i + 1) * lines + line
+at-more lines line i at e = omega (arith, one-more i lines)
+
+-- turning a matrix of columns as lines is deinterleaving
+pub matrix-back : (lines columns : ℕ) (src dst : List ℕ) → lines * columns ≤ length dst
+    → matrixInterleaved columns lines src dst ≡ written (matrixDeinterleaved lines columns src) dst
+matrix-back lines columns src dst room =
+    scatter-back (turned lines columns) (turned columns lines) (columns * lines) src dst (matrix-apart columns lines) (matrix-within columns lines)
+    (λ x h. omega (arith, turned-below lines columns x (other x h), mul-comm lines columns)) (λ x h. turned-back lines columns x (other x h))
+    (omega (arith, mul-comm lines columns))
+    ∙ ap (λ (n : ℕ). written (gather (turned lines columns) n src) dst) (mul-comm columns lines)
+  where
+    other : (x : ℕ) → x < columns * lines → x < lines * columns
+    other x h = omega (arith, mul-comm lines columns)
 
 -- ---- each undoes the other
 module _ (lines columns : ℕ) (src dst : List ℕ) (long : lines * columns ≤ length src) (room : lines * columns ≤ length dst) where

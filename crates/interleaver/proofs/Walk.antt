@@ -11,22 +11,22 @@ use Rattle.base.proofs.Lists.{write-more}
 use Rattle.base.proofs.Moves.{scatter-more}
 use Rattle.interleaver.specs.Walk.{onward, walk}
 
-pub walk-none : (start step count carry : ℕ) → start ≡ walk start step count carry 0
+pub walk-none : (start step count : ℕ) → start ≡ walk start step count 0
 unfolding walk
-walk-none start step count carry = refl
+walk-none start step count = refl
 
-pub walk-more : (start step count carry i : ℕ) → onward step count carry (walk start step count carry i) ≡ walk start step count carry (i + 1)
+pub walk-more : (start step count i : ℕ) → onward step count (walk start step count i) ≡ walk start step count (i + 1)
 unfolding walk
-walk-more start step count carry i = rw add-one
+walk-more start step count i = rw add-one
 
 -- places that begin at the start, and go a step onward below the count, are the walk's
-pub walk-along : (place : ℕ → ℕ) (start step count carry : ℕ) → (0 < count → start ≡ place 0)
-    → ((i : ℕ) → i + 1 < count → onward step count carry (place i) ≡ place (i + 1))
-    → (i : ℕ) → i < count → walk start step count carry i ≡ place i
+pub walk-along : (place : ℕ → ℕ) (start step count : ℕ) → (0 < count → start ≡ place 0)
+    → ((i : ℕ) → i + 1 < count → onward step count (place i) ≡ place (i + 1))
+    → (i : ℕ) → i < count → walk start step count i ≡ place i
 unfolding walk
-walk-along place start step count carry first next zero h = first h
-walk-along place start step count carry first next (suc i) h =
-    ap (onward step count carry) (walk-along place start step count carry first next i (omega arith))
+walk-along place start step count first next zero h = first h
+walk-along place start step count first next (suc i) h =
+    ap (onward step count) (walk-along place start step count first next i (omega arith))
     ∙ next i (omega arith) ∙ ap place (add-one i)
 
 -- ---- a turn of a loop

@@ -1,3 +1,4 @@
 pub mod Interleaving
 pub mod Divisors
 pub mod Walk
+pub mod Lines

@@ -5,20 +5,19 @@ use Prim.Native.Nat.{ℕ, zero, suc, _+_, _-_, _≤_}
 use lib.Dec.{ltb}
 use Rattle.base.specs.Places.{Within}
 
--- a step on from a place; where that is no longer below the count, as far from the front, and the carry further
-abbrev pub onward : ℕ → ℕ → ℕ → ℕ → ℕ
-onward step count carry at = cond (ltb (at + step) count) (at + step) (at + step - count + carry)
+-- a step on from a place; where that is no longer below the count, as far from the front
+abbrev pub onward : ℕ → ℕ → ℕ → ℕ
+onward step count at = cond (ltb (at + step) count) (at + step) (at + step - count)
 
 -- the place after i steps from the start
-unfoldable pub walk : ℕ → ℕ → ℕ → ℕ → ℕ → ℕ
-walk start step count carry zero = start
-walk start step count carry (suc i) = onward step count carry (walk start step count carry i)
+unfoldable pub walk : ℕ → ℕ → ℕ → ℕ → ℕ
+walk start step count zero = start
+walk start step count (suc i) = onward step count (walk start step count i)
 
 -- what the loops ask: small numbers, a source and a target that are long enough, and a walk that stays below the count
-pub record Ready (start step count carry src dst : ℕ) : Type 0 where
+pub record Ready (start step count src dst : ℕ) : Type 0 where
   pub small-step : step ≤ 65535
   pub small-count : count ≤ 4096
-  pub small-carry : carry ≤ 1
   pub long : count ≤ src
   pub room : count ≤ dst
-  pub stays : Within (walk start step count carry) count count
+  pub stays : Within (walk start step count) count count

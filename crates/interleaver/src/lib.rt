@@ -2,12 +2,13 @@
 // Ported from lmac/components/interleaver.rs; changed: refusals take the place of the asserts, a shuffle that is no permutation is refused,
 // and places are found by adding. A caller gets its target with each entry at its place, or a refusal number and the target as it was.
 ghost use mathlib.Core.Path.{_≡_};
-ghost use Prim.Native.Nat.{_%_, _≤_, _<_};
+ghost use Prim.Native.Nat.{_+_, _%_, _≤_, _<_};
 ghost use lib.ListN.{length};
 ghost use Rattle.base.specs.Refusal.{outcome, unless};
 ghost use Rattle.base.specs.Places.{written, gather, scatter};
 ghost use Rattle.interleaver.specs.Divisors.{Greatest};
 ghost use Rattle.interleaver.specs.Walk.{onward, walk, Ready};
+ghost use Rattle.interleaver.specs.Lines.{MatrixFits, lineMoved};
 ghost use Rattle.interleaver.specs.Interleaving.{shared, blockRefusal, interleaved, deinterleaved, matrixRefusal, matrixInterleaved, matrixDeinterleaved};
 
 const LIMIT: u8 = 1;
@@ -92,41 +93,41 @@ fn block_step(k: usize, a: usize) -> usize
 }
 
 // The next place: a step on or, past the count, from the front again.
-fn advance(step: usize, count: usize, carry: usize, at: usize) -> usize
-    requires { ⌜ (step ≤ 65535) × (count ≤ 4096) × (carry ≤ 1) × (at < count) ⌝ }
-    ensures { λ r. ⌜ r ≡ onward step count carry at ⌝ }
+fn advance(step: usize, count: usize, at: usize) -> usize
+    requires { ⌜ (step ≤ 65535) × (count ≤ 4096) × (at < count) ⌝ }
+    ensures { λ r. ⌜ r ≡ onward step count at ⌝ }
 {
     let next = at + step;
     if next < count {
         return next;
     }
-    next - count + carry
+    next - count
 }
 
 // Entry i goes to the walk's place i.
-fn spread(start: usize, step: usize, count: usize, carry: usize, input: &[u8], output: &mut [u8])
-    requires { ⌜ Ready start step count carry (length (now input)) (length (now output)) ⌝ }
-    ensures { λ _. ⌜ now (output .exit) ≡ scatter (walk start step count carry) count (now (input .entry)) (now (output .entry)) ⌝ }
+fn spread(start: usize, step: usize, count: usize, input: &[u8], output: &mut [u8])
+    requires { ⌜ Ready start step count (length (now input)) (length (now output)) ⌝ }
+    ensures { λ _. ⌜ now (output .exit) ≡ scatter (walk start step count) count (now (input .entry)) (now (output .entry)) ⌝ }
 {
     let mut at = start;
     let mut i: usize = 0;
     while i < count {
         output[at] = input[i];
-        at = advance(step, count, carry, at);
+        at = advance(step, count, at);
         i += 1;
     }
 }
 
 // Entry i comes from the walk's place i.
-fn collect(start: usize, step: usize, count: usize, carry: usize, input: &[u8], output: &mut [u8])
-    requires { ⌜ Ready start step count carry (length (now input)) (length (now output)) ⌝ }
-    ensures { λ _. ⌜ now (output .exit) ≡ written (gather (walk start step count carry) count (now (input .entry))) (now (output .entry)) ⌝ }
+fn collect(start: usize, step: usize, count: usize, input: &[u8], output: &mut [u8])
+    requires { ⌜ Ready start step count (length (now input)) (length (now output)) ⌝ }
+    ensures { λ _. ⌜ now (output .exit) ≡ written (gather (walk start step count) count (now (input .entry))) (now (output .entry)) ⌝ }
 {
     let mut at = start;
     let mut i: usize = 0;
     while i < count {
         output[i] = input[at];
-        at = advance(step, count, carry, at);
+        at = advance(step, count, at);
         i += 1;
     }
 }
@@ -142,7 +143,7 @@ pub fn block_interleave(k: usize, a: usize, input: &[u8], output: &mut [u8]) -> 
         return base::Outcome::Refused(refused);
     }
     let step = block_step(k, a);
-    spread(step, step, k, 0, input, output);
+    spread(step, step, k, input, output);
     base::Outcome::Done
 }
 
@@ -157,8 +158,55 @@ pub fn block_deinterleave(k: usize, a: usize, input: &[u8], output: &mut [u8]) -
         return base::Outcome::Refused(refused);
     }
     let step = block_step(k, a);
-    collect(step, step, k, 0, input, output);
+    collect(step, step, k, input, output);
     base::Outcome::Done
+}
+
+// Entry i of the line goes to i lines + line.
+fn move_line(lines: usize, columns: usize, line: usize, input: &[u8], output: &mut [u8])
+    requires { ⌜ (line < lines) × MatrixFits lines columns (length (now input)) (length (now output)) ⌝ }
+    ensures { λ _. ⌜ now (output .exit) ≡ lineMoved lines columns line (now (input .entry)) (now (output .entry)) ⌝ }
+{
+    let first = line * columns;
+    let mut at = line;
+    let mut i: usize = 0;
+    while i < columns {
+        output[at] = input[first + i];
+        at += lines;
+        i += 1;
+    }
+}
+
+// The line and the next one, entry by entry side by side.
+fn move_pair(lines: usize, columns: usize, line: usize, input: &[u8], output: &mut [u8])
+    requires { ⌜ (line + 1 < lines) × MatrixFits lines columns (length (now input)) (length (now output)) ⌝ }
+    ensures { λ _. ⌜ now (output .exit) ≡ lineMoved lines columns (line + 1) (now (input .entry)) (lineMoved lines columns line (now (input .entry)) (now (output .entry))) ⌝ }
+{
+    let first = line * columns;
+    let second = first + columns;
+    let mut at = line;
+    let mut i: usize = 0;
+    while i < columns {
+        output[at] = input[first + i];
+        output[at + 1] = input[second + i];
+        at += lines;
+        i += 1;
+    }
+}
+
+// Every line at its places, two lines at a time.
+fn move_lines(lines: usize, columns: usize, input: &[u8], output: &mut [u8])
+    requires { ⌜ MatrixFits lines columns (length (now input)) (length (now output)) ⌝ }
+    ensures { λ _. ⌜ now (output .exit) ≡ matrixInterleaved lines columns (now (input .entry)) (now (output .entry)) ⌝ }
+{
+    let mut line: usize = 0;
+    while line + 1 < lines {
+        move_pair(lines, columns, line, input, output);
+        line += 2;
+    }
+    if line < lines {
+        move_line(lines, columns, line, input, output);
+    }
 }
 
 // Entry j columns + i goes to i lines + j, counted from 0.
@@ -176,8 +224,7 @@ pub fn matrix_interleave(
     if refused != 0 {
         return base::Outcome::Refused(refused);
     }
-    let count = lines * columns;
-    spread(0, lines, count, 1, input, output);
+    move_lines(lines, columns, input, output);
     base::Outcome::Done
 }
 
@@ -196,7 +243,6 @@ pub fn matrix_deinterleave(
     if refused != 0 {
         return base::Outcome::Refused(refused);
     }
-    let count = lines * columns;
-    collect(0, lines, count, 1, input, output);
+    move_lines(columns, lines, input, output);
     base::Outcome::Done
 }

@@ -1,91 +1,90 @@
--- One step of the long division, in the work array.
+-- Long division by a register of seven coefficients, which stands for its sum with what is still to come.
 -- Assumes nothing.
-use mathlib.Core.Path.{_≡_, refl, sym, ap, ap₂, _∙_, subst}
-use mathlib.Core.List.{List, [], _∷_, _++_}
+use mathlib.Core.Path.{_≡_, refl, sym, ap, ap₂, _∙_}
+use mathlib.Core.List.{List, [], _∷_}
 use Prim.Native.Nat.{ℕ, zero, suc, _+_, _-_, _*_, _%_, _≤_, _<_}
+use native.Mathlib.Nat.{add-assoc, zero-add, one-mul}
 use native.Mathlib.Omega.{arith}
 use native.Mathlib.Numerals.{add-one}
-use lib.ListN.{length, take, drop, getD, set, replicate, length-set, length-drop}
-use lib.Seq.{drop-cons, drop-set-add, getD-drop, getD-set-other, getD-set-same}
+use lib.Bits.{bitXor}
+use lib.ListN.{length, drop, getD, replicate, length-drop}
+use lib.Seq.{drop-cons}
 use Rattle.base.specs.Bits.{Bits}
-use Rattle.base.specs.Places.{tabulate, written}
-use Rattle.base.proofs.Lists.{tabulate-length, tabulate-at}
-use Rattle.base.proofs.BitLaws.{bits-at, bits-of}
-use Rattle.speech_crc.specs.Check.{divisor, added, divided, dataBits, dividend}
+use Rattle.base.proofs.Xor.{xor-odd, odd-r}
+use Rattle.speech_crc.specs.Check.{divisor, added, divided, dataBits, dividend, remainder}
+use Rattle.speech_crc.proofs.Dividend.{dividend-bits, dividend-length, dividend-at, dividend-end}
 
--- adding the divisor changes the fourth coefficient and the seventh
-abbrev turned : ℕ → List ℕ → List ℕ
-turned lead w = set (set w 3 ((getD w 3 0 + lead) % 2)) 6 ((getD w 6 0 + lead) % 2)
+-- ---- a coefficient that a step keeps, adds the lead to, or takes in
+kept : (u lead : ℕ) → (u % 2 + lead * 0) % 2 ≡ u % 2
+kept u lead = omega arith
 
-same-bit : (c lead : ℕ) → c < 2 → (c + lead * 0) % 2 ≡ c
-same-bit c lead h = omega arith
+changed : (c e t u lead : ℕ) → u % 2 ≡ (e + t) % 2 → t % 2 ≡ lead % 2 → ((c + 1 * e) % 2 + lead * 1) % 2 ≡ (c + 1 * u) % 2
+changed c e t u lead p q =
+    let sums : ((c + 1 * e) % 2 + lead * 1) % 2 ≡ (c + e + lead) % 2 = omega arith in
+    sums ∙ sym (odd-r t lead (c + e) q) ∙ ap (λ (n : ℕ). n % 2) (add-assoc c e t) ∙ sym (odd-r u (e + t) c p)
+    ∙ ap (λ (n : ℕ). (c + n) % 2) (sym (one-mul u))
 
-other-bit : (c lead : ℕ) → (c + lead * 1) % 2 ≡ (c + lead) % 2
-other-bit c lead = omega arith
-
-added-turned : (lead : ℕ) (w : List ℕ) → 7 ≤ length w → Bits w → added lead divisor w ≡ turned lead w
-added-turned lead [] h b = absurd (omega arith)
-added-turned lead (c₀ ∷ []) h b = absurd (omega arith)
-added-turned lead (c₀ ∷ c₁ ∷ []) h b = absurd (omega arith)
-added-turned lead (c₀ ∷ c₁ ∷ c₂ ∷ []) h b = absurd (omega arith)
-added-turned lead (c₀ ∷ c₁ ∷ c₂ ∷ c₃ ∷ []) h b = absurd (omega arith)
-added-turned lead (c₀ ∷ c₁ ∷ c₂ ∷ c₃ ∷ c₄ ∷ []) h b = absurd (omega arith)
-added-turned lead (c₀ ∷ c₁ ∷ c₂ ∷ c₃ ∷ c₄ ∷ c₅ ∷ []) h b = absurd (omega arith)
-added-turned lead (c₀ ∷ c₁ ∷ c₂ ∷ c₃ ∷ c₄ ∷ c₅ ∷ c₆ ∷ w) h b =
-    ap₂ (λ (x : ℕ) (l : List ℕ). x ∷ l) (same-bit c₀ lead (b .0))
-    (ap₂ (λ (x : ℕ) (l : List ℕ). x ∷ l) (same-bit c₁ lead (b .1 .0))
-    (ap₂ (λ (x : ℕ) (l : List ℕ). x ∷ l) (same-bit c₂ lead (b .1 .1 .0))
-    (ap₂ (λ (x : ℕ) (l : List ℕ). x ∷ l) (other-bit c₃ lead)
-    (ap₂ (λ (x : ℕ) (l : List ℕ). x ∷ l) (same-bit c₄ lead (b .1 .1 .1 .1 .0))
-    (ap₂ (λ (x : ℕ) (l : List ℕ). x ∷ l) (same-bit c₅ lead (b .1 .1 .1 .1 .1 .0))
-    (ap (λ (x : ℕ). x ∷ w) (other-bit c₆ lead)))))))
+entered : (c t lead : ℕ) → t % 2 ≡ lead % 2 → (c + lead * 1) % 2 ≡ (c + 1 * t) % 2
+entered c t lead q = omega arith
 
 -- ---- a turn of the loop
-bits-drop : (n : ℕ) (w : List ℕ) → Bits w → Bits (drop n w)
-bits-drop zero w b = b
-bits-drop (suc n) [] b = tt
-bits-drop (suc n) (x ∷ w) b = bits-drop n w (b .1)
-
-bits-set : (w : List ℕ) (i x : ℕ) → Bits w → x < 2 → Bits (set w i x)
-bits-set [] i x b h = tt
-bits-set (y ∷ w) zero x b h = (h, b .1)
-bits-set (y ∷ w) (suc i) x b h = (b .0, bits-set w i x (b .1) h)
-
-module _ (w : List ℕ) (d : ℕ) (long : length w ≡ 67) (small : d < 60) (bits : Bits w) where
+module _ (a b c d e f g x : ℕ) where
   abbrev lead : ℕ
-  lead = getD w d 0
+  lead = bitXor a x
 
-  abbrev once : List ℕ
-  once = set w (d + 4) ((getD w (d + 4) 0 + lead) % 2)
+  abbrev taken : ℕ
+  taken = (x % 2 + 1 * a) % 2
 
-  abbrev twice : List ℕ
-  twice = set once (d + 7) ((getD once (d + 7) 0 + lead) % 2)
+  same-lead : lead % 2 ≡ taken % 2
+  same-lead = omega (arith, xor-odd a x)
 
-  pub first-bits : (i : ℕ) → getD once i 0 < 2
-  first-bits i = bits-at once (bits-set w (d + 4) _ bits (omega arith)) i
+  shifted : (w : List ℕ) → 7 ≤ length w
+      → added taken divisor (added 1 (b ∷ c ∷ d ∷ e ∷ f ∷ g ∷ []) w) ≡ added 1 (b ∷ c ∷ d ∷ bitXor e lead ∷ f ∷ g ∷ lead ∷ []) w
+  shifted [] h = absurd (omega arith)
+  shifted (c₀ ∷ []) h = absurd (omega arith)
+  shifted (c₀ ∷ c₁ ∷ []) h = absurd (omega arith)
+  shifted (c₀ ∷ c₁ ∷ c₂ ∷ []) h = absurd (omega arith)
+  shifted (c₀ ∷ c₁ ∷ c₂ ∷ c₃ ∷ []) h = absurd (omega arith)
+  shifted (c₀ ∷ c₁ ∷ c₂ ∷ c₃ ∷ c₄ ∷ []) h = absurd (omega arith)
+  shifted (c₀ ∷ c₁ ∷ c₂ ∷ c₃ ∷ c₄ ∷ c₅ ∷ []) h = absurd (omega arith)
+  shifted (c₀ ∷ c₁ ∷ c₂ ∷ c₃ ∷ c₄ ∷ c₅ ∷ c₆ ∷ w) h =
+      ap₂ (λ (y : ℕ) (l : List ℕ). y ∷ l) (kept (c₀ + 1 * b) taken)
+      (ap₂ (λ (y : ℕ) (l : List ℕ). y ∷ l) (kept (c₁ + 1 * c) taken)
+      (ap₂ (λ (y : ℕ) (l : List ℕ). y ∷ l) (kept (c₂ + 1 * d) taken)
+      (ap₂ (λ (y : ℕ) (l : List ℕ). y ∷ l) (changed c₃ e lead (bitXor e lead) taken (xor-odd e lead) same-lead)
+      (ap₂ (λ (y : ℕ) (l : List ℕ). y ∷ l) (kept (c₄ + 1 * f) taken)
+      (ap₂ (λ (y : ℕ) (l : List ℕ). y ∷ l) (kept (c₅ + 1 * g) taken)
+      (ap (λ (y : ℕ). y ∷ w) (entered c₆ lead taken same-lead)))))))
 
-  pub turn-length : length twice ≡ 67
-  turn-length = length-set once (d + 7) _ ∙ length-set w (d + 4) _ ∙ long
-
-  pub turn-bits : Bits twice
-  turn-bits = bits-set once (d + 7) _ (bits-set w (d + 4) _ bits (omega arith)) (omega arith)
-
-  rest : List ℕ
-  rest = drop (suc d) w
-
-  rest-is : drop (suc d) twice ≡ turned lead (drop (suc d) w)
-  rest-is =
-      let p : d + 7 ≡ suc d + 6 = omega arith in
-      let q : d + 4 ≡ suc d + 3 = omega arith in
-      ap₂ (λ (i x : ℕ). drop (suc d) (set once i x)) p (ap (λ (y : ℕ). (y + lead) % 2) (getD-set-other w (d + 4) (d + 7) _ 0 (λ e. omega arith) ∙ ap (λ (i : ℕ). getD w i 0) p ∙ sym (getD-drop (suc d) w 6 0)))
-      ∙ drop-set-add (suc d) once 6 _
-      ∙ ap (λ (l : List ℕ). set l 6 ((getD (drop (suc d) w) 6 0 + lead) % 2))
-      (ap₂ (λ (i x : ℕ). drop (suc d) (set w i x)) q (ap (λ (y : ℕ). (y + lead) % 2) (ap (λ (i : ℕ). getD w i 0) q ∙ sym (getD-drop (suc d) w 3 0))) ∙ drop-set-add (suc d) w 3 _)
-
-  pub turn-divided : divided (60 - (d + 1)) (drop (d + 1) twice) ≡ divided (60 - d) (drop d w)
+  divided-once : (n : ℕ) (w : List ℕ) → 7 ≤ length w
+      → divided (suc n) (added 1 (a ∷ b ∷ c ∷ d ∷ e ∷ f ∷ g ∷ []) (x % 2 ∷ w)) ≡ divided n (added 1 (b ∷ c ∷ d ∷ bitXor e lead ∷ f ∷ g ∷ lead ∷ []) w)
   unfolding divided
-  turn-divided =
-      let n : 60 - d ≡ suc (60 - (d + 1)) = omega arith in
-      ap (λ (k : ℕ). divided (60 - (d + 1)) (drop k twice)) (add-one d)
-      ∙ ap (divided (60 - (d + 1))) (rest-is ∙ sym (added-turned lead (drop (suc d) w) (omega (arith, length-drop (suc d) w)) (bits-drop (suc d) w bits)))
-      ∙ sym (ap₂ divided n (drop-cons w d 0 (omega arith)))
+  divided-once n w h = ap (divided n) (shifted w h)
+
+pub turn : (src : List ℕ) (i a b c d e f g : ℕ) → i < 60
+    → divided (60 - (i + 1))
+    (added 1 (b ∷ c ∷ d ∷ bitXor e (bitXor a (getD src (59 - i) 0)) ∷ f ∷ g ∷ bitXor a (getD src (59 - i) 0) ∷ []) (drop (i + 1) (dividend (dataBits src))))
+    ≡ divided (60 - i) (added 1 (a ∷ b ∷ c ∷ d ∷ e ∷ f ∷ g ∷ []) (drop i (dividend (dataBits src))))
+turn src i a b c d e f g h =
+    let w = dividend (dataBits src) in
+    let long : length w ≡ 67 = dividend-length (dataBits src) in
+    rw add-one
+    (sym (divided-once a b c d e f g (getD src (59 - i) 0) (60 - suc i) (drop (suc i) w) (omega (arith, length-drop (suc i) w)))
+    ∙ ap₂ (λ (k : ℕ) (l : List ℕ). divided k (added 1 (a ∷ b ∷ c ∷ d ∷ e ∷ f ∷ g ∷ []) l)) (omega arith)
+    (ap (λ (y : ℕ). y ∷ drop (suc i) w) (sym (dividend-at src i h)) ∙ sym (drop-cons w i 0 (omega arith))))
+
+-- ---- before the first turn and after the last
+added-zeros : (n : ℕ) (w : List ℕ) → Bits w → added 1 (replicate n 0) w ≡ w
+added-zeros zero w h = refl
+added-zeros (suc n) [] h = refl
+added-zeros (suc n) (c ∷ w) h =
+    let e : (c + 1 * 0) % 2 ≡ c = omega (arith, h .0) in
+    ap₂ (λ (x : ℕ) (l : List ℕ). x ∷ l) e (added-zeros n w (h .1))
+
+pub turn-none : (src : List ℕ) → divided 60 (added 1 (replicate 7 0) (dividend (dataBits src))) ≡ remainder (dataBits src)
+turn-none src = ap (divided 60) (added-zeros 7 (dividend (dataBits src)) (dividend-bits src))
+
+pub turn-all : (src : List ℕ) (a b c d e f g : ℕ)
+    → divided 0 (added 1 (a ∷ b ∷ c ∷ d ∷ e ∷ f ∷ g ∷ []) (drop 60 (dividend (dataBits src)))) ≡ a % 2 ∷ b % 2 ∷ c % 2 ∷ d % 2 ∷ e % 2 ∷ f % 2 ∷ g % 2 ∷ []
+unfolding divided
+turn-all src a b c d e f g = rw (dividend-end (dataBits src)) (simp (zero-add, one-mul))

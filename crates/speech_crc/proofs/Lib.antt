@@ -1,5 +1,5 @@
 pub mod Division
-pub mod Raising
+pub mod Dividend
 pub mod Sums
 pub mod Shape
 pub mod Remainder

@@ -10,7 +10,7 @@ use Rattle.base.specs.Places.{tabulate}
 use Rattle.base.proofs.Lists.{tabulate-length}
 use Rattle.base.proofs.BitLaws.{bits-append, bits-at, bits-tabulate}
 use Rattle.speech_crc.specs.Check.{divisor, added, divided, dataBits, dividend, remainder, total, speechCheck}
-use Rattle.speech_crc.proofs.Raising.{dividend-bits}
+use Rattle.speech_crc.proofs.Dividend.{dividend-bits}
 
 pub check-length : (src : List ℕ) → length (speechCheck src) ≡ 8
 unfolding speechCheck

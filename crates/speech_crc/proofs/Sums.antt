@@ -1,44 +1,48 @@
 -- Sums of entries, and the check put together from its parts.
 -- Assumes nothing.
-use mathlib.Core.Path.{_≡_, refl, sym, ap, ap₂, _∙_}
+use mathlib.Core.Path.{_≡_, sym, ap, ap₂, subst, _∙_}
 use mathlib.Core.List.{List, [], _∷_, _++_}
-use Prim.Native.Nat.{ℕ, zero, suc, _+_, _-_, _%_, _≤_, _<_}
+use Prim.Native.Nat.{ℕ, _+_, _-_, _%_}
 use native.Mathlib.Omega.{arith}
-use lib.ListN.{length, take, drop, getD, length-drop}
-use lib.Seq.{getD-drop, take-all}
+use lib.Bits.{bitXor}
+use lib.ListN.{length, getD}
 use Rattle.base.specs.Bits.{Bits}
-use Rattle.base.specs.Places.{tabulate, written}
-use Rattle.base.proofs.Lists.{tabulate-more, tabulate-same, tabulate-of}
+use Rattle.base.specs.Places.{tabulate}
+use Rattle.base.proofs.Lists.{tabulate-more, tabulate-of}
 use Rattle.base.proofs.BitLaws.{bits-at}
-use Rattle.speech_crc.specs.Check.{total, dataBits, dividend, divided, remainder, speechCheck}
+use Rattle.base.proofs.Xor.{xor-odd}
+use Rattle.speech_crc.specs.Check.{total, dataBits, dividend, remainder, speechCheck}
+use Rattle.speech_crc.proofs.Dividend.{dividend-bits}
+use Rattle.speech_crc.proofs.Shape.{divided-bits}
 
 total-snoc : (w : List ℕ) (x : ℕ) → total (w ++ (x ∷ [])) ≡ total w + x
 total-snoc [] x = omega arith
 total-snoc (b ∷ w) x = omega (arith, total-snoc w x)
 
 -- a turn of the loop over the entries
-pub parity-more : (f : ℕ → ℕ) (i sum : ℕ) → sum ≡ total (tabulate f i) % 2 → (sum + f i) % 2 ≡ total (tabulate f (i + 1)) % 2
-parity-more f i sum e = omega (arith, total-snoc (tabulate f i) (f i), ap total (tabulate-more f i))
+pub parity-more : (s : List ℕ) (i sum : ℕ) → sum % 2 ≡ total (tabulate (λ k. getD s k 0 % 2) i) % 2
+    → bitXor sum (getD s i 0) % 2 ≡ total (tabulate (λ k. getD s k 0 % 2) (i + 1)) % 2
+parity-more s i sum e =
+    xor-odd sum (getD s i 0)
+    ∙ further (getD s i 0) (total (tabulate low i)) (total (tabulate low (i + 1))) e (ap total (tabulate-more low i) ∙ total-snoc (tabulate low i) (low i))
+  where
+    low : ℕ → ℕ
+    low k = getD s k 0 % 2
 
--- ---- the check from the reduced array
-module _ (src w : List ℕ) (long : length w ≡ 67) (bits : Bits w) (rest : drop 60 w ≡ divided 60 (dividend (dataBits src))) where
-  -- the entries of the remainder are their own lowest bits
-  rest-sum : total (tabulate (λ i. getD (take 7 (drop 60 w)) i 0 % 2) 7) ≡ total (remainder (dataBits src))
-  rest-sum =
-      let l : length (drop 60 w) ≡ 7 = omega (arith, length-drop 60 w) in
-      ap total (sym (tabulate-of (drop 60 w) (λ i. getD (take 7 (drop 60 w)) i 0 % 2) 7 l
-      (λ i h. let s : getD (take 7 (drop 60 w)) i 0 ≡ getD w (60 + i) 0 = ap (λ (v : List ℕ). getD v i 0) (take-all 7 (drop 60 w) (omega arith)) ∙ getD-drop 60 w i 0 in
-      omega (arith, s, getD-drop 60 w i 0, bits-at w bits (60 + i))))) ∙ ap total rest
+    further : (x before after : ℕ) → sum % 2 ≡ before % 2 → after ≡ before + x % 2 → (sum + x) % 2 ≡ after % 2
+    further x before after p q = omega arith
 
-  front : tabulate (λ i. getD w (66 - i) 0) 7 ≡ tabulate (λ i. getD (remainder (dataBits src)) (6 - i) 0) 7
-  front =
-      tabulate-same (λ i. getD w (66 - i) 0) (λ i. getD (remainder (dataBits src)) (6 - i) 0) 7
-      (λ i h. let p : 66 - i ≡ 60 + (6 - i) = omega arith in
-      ap (λ (k : ℕ). getD w k 0) p ∙ sym (getD-drop 60 w (6 - i) 0) ∙ ap (λ (v : List ℕ). getD v (6 - i) 0) rest)
+-- ---- the check from the remainder
+module _ (src left : List ℕ) (long : length left ≡ 7) (is : left ≡ remainder (dataBits src)) where
+  -- the remainder's entries are their own lowest bits
+  left-sum : total (tabulate (λ i. getD left i 0 % 2) 7) ≡ total (remainder (dataBits src))
+  left-sum =
+      let bits : Bits left = subst Bits (sym is) (divided-bits 60 (dividend (dataBits src)) (dividend-bits src)) in
+      ap total (sym (tabulate-of left (λ i. getD left i 0 % 2) 7 long (λ i h. omega (arith, bits-at left bits i)))) ∙ ap total is
 
-  pub check-is : (a b : ℕ) → a ≡ total (tabulate (λ i. getD src i 0 % 2) 60) % 2 → b ≡ total (tabulate (λ i. getD (take 7 (drop 60 w)) i 0 % 2) 7) % 2
-      → tabulate (λ i. getD w (66 - i) 0) 7 ++ ((a + b) % 2 ∷ []) ≡ speechCheck src
+  pub check-is : (a b : ℕ) → a ≡ total (tabulate (λ i. getD src i 0 % 2) 60) % 2 → b ≡ total (tabulate (λ i. getD left i 0 % 2) 7) % 2
+      → tabulate (λ i. getD left (6 - i) 0) 7 ++ ((a + b) % 2 ∷ []) ≡ speechCheck src
   unfolding speechCheck
   check-is a b p q =
-      let s : (a + b) % 2 ≡ (total (dataBits src) + total (remainder (dataBits src))) % 2 = omega (arith, rest-sum) in
-      ap₂ (λ (l : List ℕ) (x : ℕ). l ++ (x ∷ [])) front s
+      let s : (a + b) % 2 ≡ (total (dataBits src) + total (remainder (dataBits src))) % 2 = omega (arith, left-sum) in
+      ap₂ (λ (l : List ℕ) (x : ℕ). tabulate (λ i. getD l (6 - i) 0) 7 ++ (x ∷ [])) is s

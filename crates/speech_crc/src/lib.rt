@@ -4,41 +4,45 @@
 ghost use mathlib.Core.Path.{_≡_};
 ghost use mathlib.Core.List.{[], _∷_, _++_};
 ghost use Prim.Native.Nat.{_+_, _-_, _%_, _≤_};
-ghost use lib.ListN.{length, drop, getD};
-ghost use Rattle.base.specs.Bits.{Bits};
+ghost use lib.ListN.{length, getD};
 ghost use Rattle.base.specs.Places.{written, tabulate};
 ghost use Rattle.base.specs.Refusal.{outcome, unless};
-ghost use Rattle.speech_crc.specs.Check.{dividend, dataBits, divided, speechCheck, checkRefusal, total};
+ghost use Rattle.speech_crc.specs.Check.{dataBits, remainder, speechCheck, checkRefusal, total};
 use base::Outcome;
 
-// The 60 data bits, from the last to the first, then seven zeros.
-fn raised(class2: &[u8]) -> [u8; 67]
+// The remainder, the highest degree first: a register of seven coefficients takes the data in, the last bit first.
+fn divide(class2: &[u8]) -> [u8; 7]
     requires { ⌜ 60 ≤ length (now class2) ⌝ }
-    ensures { λ r. ⌜ r ≡ dividend (dataBits (now (class2 .entry))) ⌝ }
+    ensures { λ r. ⌜ r ≡ remainder (dataBits (now (class2 .entry))) ⌝ }
 {
-    let mut w = [0u8; 67];
+    let mut sixth: u8 = 0;
+    let mut fifth: u8 = 0;
+    let mut fourth: u8 = 0;
+    let mut third: u8 = 0;
+    let mut second: u8 = 0;
+    let mut first: u8 = 0;
+    let mut constant: u8 = 0;
     let mut i: usize = 0;
     while i < 60 {
-        w[i] = class2[59 - i] % 2;
+        let lead = sixth ^ class2[59 - i];
+        sixth = fifth;
+        fifth = fourth;
+        fourth = third;
+        third = second ^ lead;
+        second = first;
+        first = constant;
+        constant = lead;
         i += 1;
     }
-    w
-}
-
-// Long division by X^7 + X^3 + 1: the remainder stands in the last seven entries.
-fn reduced(bits: [u8; 67]) -> [u8; 67]
-    requires { ⌜ Bits bits ⌝ }
-    ensures { λ r. ⌜ (drop 60 r ≡ divided 60 bits) × Bits r ⌝ }
-{
-    let mut w = bits;
-    let mut d: usize = 0;
-    while d < 60 {
-        let lead = w[d];
-        w[d + 4] = (w[d + 4] + lead) % 2;
-        w[d + 7] = (w[d + 7] + lead) % 2;
-        d += 1;
-    }
-    w
+    [
+        sixth % 2,
+        fifth % 2,
+        fourth % 2,
+        third % 2,
+        second % 2,
+        first % 2,
+        constant % 2,
+    ]
 }
 
 // The sum mod 2 of the lowest bits of the first n entries.
@@ -49,20 +53,20 @@ fn parity(s: &[u8], n: usize) -> u8
     let mut sum: u8 = 0;
     let mut i: usize = 0;
     while i < n {
-        sum = (sum + s[i] % 2) % 2;
+        sum ^= s[i];
         i += 1;
     }
-    sum
+    sum % 2
 }
 
 // The remainder, the lowest degree first, and the parity behind it.
-fn put(w: [u8; 67], last: u8, check: &mut [u8])
+fn put(left: [u8; 7], last: u8, check: &mut [u8])
     requires { ⌜ 8 ≤ length (now check) ⌝ }
-    ensures { λ r. ⌜ now (check .exit) ≡ written (tabulate (λ i. getD w (66 - i) 0) 7 ++ (last ∷ [])) (now (check .entry)) ⌝ }
+    ensures { λ r. ⌜ now (check .exit) ≡ written (tabulate (λ i. getD left (6 - i) 0) 7 ++ (last ∷ [])) (now (check .entry)) ⌝ }
 {
     let mut i: usize = 0;
     while i < 7 {
-        check[i] = w[66 - i];
+        check[i] = left[6 - i];
         i += 1;
     }
     check[7] = last;
@@ -73,9 +77,9 @@ fn put_check(class2: &[u8], check: &mut [u8])
     requires { ⌜ (60 ≤ length (now class2)) × (8 ≤ length (now check)) ⌝ }
     ensures { λ r. ⌜ now (check .exit) ≡ written (speechCheck (now (class2 .entry))) (now (check .entry)) ⌝ }
 {
-    let w = reduced(raised(class2));
-    let last = (parity(class2, 60) + parity(&w[60..67], 7)) % 2;
-    put(w, last, check);
+    let left = divide(class2);
+    let last = (parity(class2, 60) + parity(&left, 7)) % 2;
+    put(left, last, check);
 }
 
 // Writes the eight check bits of the 60 data bits, or refuses and writes nothing: SHORT below 60 entries, ROOM below 8.

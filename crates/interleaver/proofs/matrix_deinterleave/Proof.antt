@@ -1,12 +1,11 @@
--- A refusal leaves the target; otherwise the loop moves each entry along the places.
+-- A refusal leaves the target; otherwise the lines are moved, the columns taken for lines.
 use mathlib.Core.Path.{sym, _∙_}
-use native.Mathlib.Omega.{arith}
 use borrow.Author.Needs.{needs}
 use lib.ListN.{length}
 use Rattle.base.specs.Places.{written}
 use Rattle.interleaver.specs.Interleaving.{matrixDeinterleaved}
 use Rattle.base.proofs.Refusals.{refused, done}
-use Rattle.interleaver.proofs.Matrix.{matrix-ready, matrix-collect, matrix-accepted}
+use Rattle.interleaver.proofs.Matrix.{matrix-accepted, fits-turned, matrix-back}
 use Rattle.interleaver.proofs.matrix_deinterleave.Statement.{statement}
 use Rattle.interleaver.proofs.matrix_deinterleave.Tie as tie
 
@@ -19,17 +18,11 @@ returns c =
     let r = c .before .matrix-refusal in
     refused (r .result) _ (written (matrixDeinterleaved (g .lines) (g .columns) (g .input .now)) (g .output .now)) (g .output .now) (r .ensures) (c .if1 .taken)
 
-mul-count : tie.Need-mul-count
-mul-count c =
-    let g = c .before .before .before .before .args in
-    let fits = matrix-accepted (g .lines) (g .columns) (length (g .input .now)) (length (g .output .now)) (sym (c .before .matrix-refusal .ensures) ∙ c .if1 .left) in
-    record { fits = omega (arith, fits .count) }
-
-collect-requires : tie.Need-collect-requires
-collect-requires c κs =
+move-lines-requires : tie.Need-move-lines-requires
+move-lines-requires c κs =
     let g = c .before .before .before .before .before .args in
-    let accepted = sym (c .before .before .matrix-refusal .ensures) ∙ c .before .if1 .left in
-    matrix-ready (g .lines) (g .columns) (length (g .input .now)) (length (g .output .now)) accepted
+    fits-turned (g .lines) (g .columns) (length (g .input .now)) (length (g .output .now))
+    (matrix-accepted (g .lines) (g .columns) (length (g .input .now)) (length (g .output .now)) (sym (c .before .before .matrix-refusal .ensures) ∙ c .before .if1 .left))
 
 same-length : tie.Need-same-length
 same-length c = search needs
@@ -38,8 +31,9 @@ returns-2 : tie.Need-returns-2
 returns-2 c =
     let g = c .before .before .before .before .before .before .before .before .args in
     let r = c .before .before .before .before .before .matrix-refusal in
+    let fits = matrix-accepted (g .lines) (g .columns) (length (g .input .now)) (length (g .output .now)) (sym (c .before .before .before .before .before .matrix-refusal .ensures) ∙ c .before .before .before .before .if1 .left) in
     done (r .result) _ (written (matrixDeinterleaved (g .lines) (g .columns) (g .input .now)) (g .output .now)) (g .output .now) _ (r .ensures) (c .before .before .before .before .if1 .left)
-    (c .before .before .collect .ensures ∙ matrix-collect (g .lines) (g .columns) (g .input .now) (g .output .now))
+    (c .before .before .move-lines .ensures ∙ matrix-back (g .lines) (g .columns) (g .input .now) (g .output .now) (fits .room))
 
 pub matrix-deinterleave-spec : {M : Type 1} → statement M
-matrix-deinterleave-spec = tie.close (tie.spec matrix-refusal-requires returns mul-count collect-requires same-length returns-2)
+matrix-deinterleave-spec = tie.close (tie.spec matrix-refusal-requires returns move-lines-requires same-length returns-2)

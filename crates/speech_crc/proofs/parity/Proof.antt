@@ -1,4 +1,4 @@
--- The sum of the entries before i.
+-- Before each turn the sum's lowest bit is that of the entries before i.
 use Prim.Native.Nat.{ℕ, _≤_, _-_, _%_}
 use mathlib.Core.Path.{_≡_, refl, ap, _∙_}
 use lib.ListN.{getD}
@@ -9,44 +9,32 @@ use native.Mathlib.Omega.{arith}
 use borrow.Author.Needs.{needs}
 use Rattle.speech_crc.proofs.parity.Statement.{statement}
 use Rattle.speech_crc.proofs.parity.Tie as tie
-use Rattle.speech_crc.proofs.parity.Reads as reads
-use Rattle.speech_crc.proofs.parity.Lts as lts
 
 abbrev Inv-loop : tie.InvT-loop
-Inv-loop s n sum₀ i₀ sum i = (i ≤ n) × (sum ≡ total (tabulate (λ k. getD s k 0 % 2) i) % 2)
+Inv-loop s n sum₀ i₀ sum i = (i ≤ n) × (sum % 2 ≡ total (tabulate (λ k. getD s k 0 % 2) i) % 2)
 
 abbrev μ-loop : tie.MeasureT-loop
 μ-loop s n sum₀ i₀ sum i = n - i
 
--- src/lib.rt:51:5
 loop-holds : tie.Need-loop-holds Inv-loop μ-loop
 unfolding tabulate
 loop-holds c = (omega arith, refl)
 
--- src/lib.rt:52:22
 shared-slice-read-sum : tie.Need-shared-slice-read-sum Inv-loop μ-loop
 shared-slice-read-sum c = search needs
 
--- src/lib.rt:52:16
-add-sum : tie.Need-add-sum Inv-loop μ-loop
-add-sum c = omega (arith, c .before .before .loop .inv .1)
-
--- src/lib.rt:53:9
 add-i : tie.Need-add-i Inv-loop μ-loop
 add-i c = search needs
 
--- src/lib.rt:51:5
 loop-less : tie.Need-loop-less Inv-loop μ-loop
 loop-less c = search needs
 
--- src/lib.rt:51:5
 loop-again : tie.Need-loop-again Inv-loop μ-loop
 loop-again c =
     let s = c .before .before .before .args .s .now in
     let l = c .before .before .loop in
-    (omega arith, parity-more (λ k. getD s k 0 % 2) (l .i) (l .sum) (l .inv .1))
+    (omega arith, parity-more s (l .i) (l .sum) (l .inv .1))
 
--- src/lib.rt:45:1
 returns : tie.Need-returns Inv-loop μ-loop
 returns c =
     let l = c .before .loop in
@@ -61,7 +49,6 @@ parity-spec =
     μ-loop
     loop-holds
     shared-slice-read-sum
-    add-sum
     add-i
     loop-less
     loop-again

@@ -1,31 +1,26 @@
--- The entries before i are bits; the first that is none ends the loop.
+-- Before each turn the bitwise or of the entries before i is a bit where all of them are.
 use Prim.Native.Nat.{ℕ, _≤_, _-_}
-use mathlib.Core.Path.{_≡_, refl, sym, ap, _∙_}
-use mathlib.Core.Bool.{true, false}
+use mathlib.Core.Path.{_≡_, refl, ap, _∙_}
+use mathlib.Core.Bool.{Bool}
 use native.Mathlib.Omega.{arith}
 use borrow.Author.Needs.{needs}
-use Rattle.base.specs.Bits.{bitsOnly}
-use Rattle.base.proofs.BitLaws.{bits-only-more, bits-only-no}
+use lib.ListN.{getD}
+use Rattle.base.specs.Bits.{both, isBit, bitsOnly}
+use Rattle.base.proofs.BitLaws.{is-bit-test, is-bit-or, bits-only-more}
 use Rattle.base.proofs.inner.bits_only.Statement.{statement}
 use Rattle.base.proofs.inner.bits_only.Tie as tie
 
 abbrev Inv-loop : tie.InvT-loop
-Inv-loop s n i₀ i = (i ≤ n) × (bitsOnly i s ≡ true)
+Inv-loop s n all₀ i₀ all i = (i ≤ n) × (isBit all ≡ bitsOnly i s)
 
 abbrev μ-loop : tie.MeasureT-loop
-μ-loop s n i₀ i = n - i
+μ-loop s n all₀ i₀ all i = n - i
 
 loop-holds : tie.Need-loop-holds Inv-loop μ-loop
 loop-holds c = (omega arith, refl)
 
-shared-slice-read-if1 : tie.Need-shared-slice-read-if1 Inv-loop μ-loop
-shared-slice-read-if1 c = search needs
-
-returns : tie.Need-returns Inv-loop μ-loop
-returns c =
-    let a = c .before .before .before .before .args in
-    let i = c .before .before .before .loop .i in
-    sym (bits-only-no (a .n) i (a .s .now) (omega arith) (omega arith) (c .if1 .taken))
+shared-slice-read-all : tie.Need-shared-slice-read-all Inv-loop μ-loop
+shared-slice-read-all c = search needs
 
 add-i : tie.Need-add-i Inv-loop μ-loop
 add-i c = search needs
@@ -35,26 +30,19 @@ loop-less c = search needs
 
 loop-again : tie.Need-loop-again Inv-loop μ-loop
 loop-again c =
-    let a = c .before .before .before .before .args in
-    let l = c .before .before .before .loop in
-    (omega arith, bits-only-more (l .i) (a .s .now) (omega arith) (l .inv .1) (omega (arith, c .if1 .left)))
+    let a = c .before .before .before .args in
+    let l = c .before .before .loop in
+    let entry = getD (a .s .now) (l .i) 0 in (
+      omega arith,
+      is-bit-or (l .all) entry ∙ ap (λ (t : Bool). both t (isBit entry)) (l .inv .1) ∙ bits-only-more (l .i) (a .s .now) (omega arith),
+    )
 
-returns-2 : tie.Need-returns-2 Inv-loop μ-loop
-returns-2 c =
+returns : tie.Need-returns Inv-loop μ-loop
+returns c =
     let a = c .before .before .args in
-    let e : c .before .loop .i ≡ a .n = omega arith in
-    sym (ap (λ (i : ℕ). bitsOnly i (a .s .now)) (sym e) ∙ c .before .loop .inv .1)
+    let l = c .before .loop in
+    let e : l .i ≡ a .n = omega arith in
+    is-bit-test (l .all) ∙ l .inv .1 ∙ ap (λ (i : ℕ). bitsOnly i (a .s .now)) e
 
 pub bits-only-spec : {M : Type 1} → statement M
-bits-only-spec =
-    tie.close
-    (tie.spec
-    Inv-loop
-    μ-loop
-    loop-holds
-    shared-slice-read-if1
-    returns
-    add-i
-    loop-less
-    loop-again
-    returns-2)
+bits-only-spec = tie.close (tie.spec Inv-loop μ-loop loop-holds shared-slice-read-all add-i loop-less loop-again returns)
