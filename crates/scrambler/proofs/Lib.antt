@@ -1,4 +1,5 @@
 pub mod Outputs
-pub mod Eight
+pub mod AtOnce
 pub mod Blocks
+pub mod Fours
 pub mod Starts

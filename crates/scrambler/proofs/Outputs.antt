@@ -1,14 +1,10 @@
 -- The register and its outputs: bits, from the middle as from the start, and none from 0.
 -- Assumes nothing.
 use mathlib.Core.Path.{_≡_, refl, sym, ap, _∙_}
-use mathlib.Core.List.{List, [], _∷_}
-use Prim.Native.Nat.{ℕ, zero, suc, _+_, _/_, _%_, _^_, _<_}
+use Prim.Native.Nat.{ℕ, zero, suc, _+_, _/_, _^_, _<_}
 use native.Mathlib.Nat.{add-zero, add-suc}
 use native.Mathlib.Omega.{arith}
-use lib.Bits.{bitXor}
-use lib.ListN.{drop}
-use Rattle.base.proofs.Xor.{xor-odd}
-use Rattle.scrambler.specs.Scrambling.{taps, tapSum, newBit, next, nexts, output}
+use Rattle.scrambler.specs.Scrambling.{newBit, next, nexts, output}
 
 pub new-bit-lt : (x : ℕ) → newBit x < 2
 unfolding newBit
@@ -59,29 +55,3 @@ pub output-zero : (i : ℕ) → output 0 i ≡ 0
 unfolding output newBit next
 output-zero zero = refl
 output-zero (suc i) = output-zero i
-
--- ---- the sum of the taps by exclusive or
--- the register moved down to each of the places, and all of them added to acc
-abbrev pub mixed : ℕ → List ℕ → ℕ → ℕ
-mixed acc [] x = acc
-mixed acc (t ∷ ts) x = mixed (bitXor acc (x / 2 ^ t)) ts x
-
-mixed-odd : (ts : List ℕ) (acc x : ℕ) → mixed acc ts x % 2 ≡ (acc + tapSum ts x) % 2
-mixed-odd [] acc x = omega arith
-mixed-odd (t ∷ ts) acc x =
-    mixed-odd ts (bitXor acc (x / 2 ^ t)) x ∙ join (bitXor acc (x / 2 ^ t)) acc (x / 2 ^ t) (tapSum ts x) (xor-odd acc (x / 2 ^ t))
-  where
-    join : (u a s r : ℕ) → u % 2 ≡ (a + s) % 2 → (u + r) % 2 ≡ (a + (s % 2 + r)) % 2
-    join u a s r e = omega arith
-
--- the taps above bit 0
-abbrev pub laterTaps : List ℕ
-laterTaps = drop 1 taps
-
--- the lowest bit of them all is the new bit
-pub mixed-new : (x : ℕ) → mixed x laterTaps x % 2 ≡ newBit x
-unfolding newBit
-mixed-new x = mixed-odd laterTaps x x ∙ first x (tapSum laterTaps x)
-  where
-    first : (x r : ℕ) → (x + r) % 2 ≡ (x / 2 ^ 0 % 2 + r) % 2
-    first x r = omega arith

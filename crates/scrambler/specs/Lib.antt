@@ -1,1 +1,2 @@
 pub mod Scrambling
+pub mod Fours

@@ -2,11 +2,12 @@
 // Ported from lmac/components/scrambler.rs; changed: a block is a lent slice, sending refuses what is no bit, receiving is a
 // form of its own that keeps erasures, and fields out of range are refused. A caller gets its block scrambled in place.
 ghost use mathlib.Core.Path.{_≡_};
-ghost use Prim.Native.Nat.{_+_, _/_, _%_, _^_, _<_};
-ghost use lib.ListN.{length};
+ghost use Prim.Native.Nat.{ℕ, _+_, _*_, _/_, _%_, _^_, _≤_, _<_};
+ghost use lib.ListN.{length, getD};
 ghost use Rattle.base.specs.Refusal.{outcome, unless};
-ghost use Rattle.base.specs.Places.{tabulate};
+ghost use Rattle.base.specs.Places.{tabulate, written};
 ghost use Rattle.scrambler.specs.Scrambling.{nexts, output, startAnswer, scrambled, sendRefusal, descrambledSymbol, descrambled};
+ghost use Rattle.scrambler.specs.Fours.{Spreads, Taken, Begun};
 
 // The start value of the synchronization channel, BSCH.
 pub const SCRAMB_INIT: u32 = 3;
@@ -17,12 +18,12 @@ pub enum Start {
     Refused(u8),
 }
 
-// The register after eight shifts. The bits that entered, which are the outputs, stand in its upper eight places, the first
-// lowest.
-fn next_eight(x: u32) -> u32
-    ensures { λ r. ⌜ r ≡ nexts x 8 ⌝ }
+// The register after thirty-two shifts. It holds their outputs and nothing else, the first lowest.
+fn renewed(x: u32) -> u32
+    ensures { λ r. ⌜ r ≡ nexts x 32 ⌝ }
 {
-    let own = (x
+    // The taps of the register as it is, moved down to the place of each output.
+    let own = x
         ^ (x >> 6)
         ^ (x >> 9)
         ^ (x >> 10)
@@ -35,25 +36,65 @@ fn next_eight(x: u32) -> u32
         ^ (x >> 27)
         ^ (x >> 28)
         ^ (x >> 30)
-        ^ (x >> 31))
-        % 256;
-    // An output of the eight comes to the highest taps while the others are made.
-    let outputs = (own ^ (own * 2) ^ (own * 8) ^ (own * 32) ^ (own * 128)) % 256;
-    x / 256 + outputs * 0x100_0000
+        ^ (x >> 31);
+    // Outputs come to the taps while later ones are made: how far each part reaches into those after it.
+    own
+        ^ (own << 1)
+        ^ (own << 3)
+        ^ (own << 5)
+        ^ (own << 7)
+        ^ (own << 9)
+        ^ (own << 11)
+        ^ (own << 12)
+        ^ (own << 16)
+        ^ (own << 18)
+        ^ (own << 23)
+        ^ (own << 27)
+        ^ (own << 30)
+        ^ (own << 31)
 }
 
 // The register that holds output i, from the one that held the output before it.
 fn register_at(lfsr: u32, i: usize) -> u32
-    ensures { λ r. ⌜ (i % 8 ≡ 0 → r ≡ nexts lfsr 8) × ((i % 8 ≡ 0 → ⊥) → r ≡ lfsr) ⌝ }
+    ensures { λ r. ⌜ (i % 32 ≡ 0 → r ≡ nexts lfsr 32) × ((i % 32 ≡ 0 → ⊥) → r ≡ lfsr) ⌝ }
 {
-    if i % 8 == 0 { next_eight(lfsr) } else { lfsr }
+    if i % 32 == 0 { renewed(lfsr) } else { lfsr }
 }
 
 // Output i, of the register that holds it.
 fn output_at(lfsr: u32, i: usize) -> u8
-    ensures { λ r. ⌜ r ≡ lfsr / 2 ^ (24 + i % 8) % 2 ⌝ }
+    ensures { λ r. ⌜ r ≡ lfsr / 2 ^ (i % 32) % 2 ⌝ }
 {
-    ((lfsr >> (24 + i % 8)) % 2) as u8
+    ((lfsr >> (i % 32)) % 2) as u8
+}
+
+// The bits of each number below 16, the lowest first.
+const SPREAD: [[u8; 4]; 16] = [
+    [0, 0, 0, 0],
+    [1, 0, 0, 0],
+    [0, 1, 0, 0],
+    [1, 1, 0, 0],
+    [0, 0, 1, 0],
+    [1, 0, 1, 0],
+    [0, 1, 1, 0],
+    [1, 1, 1, 0],
+    [0, 0, 0, 1],
+    [1, 0, 0, 1],
+    [0, 1, 0, 1],
+    [1, 1, 0, 1],
+    [0, 0, 1, 1],
+    [1, 0, 1, 1],
+    [0, 1, 1, 1],
+    [1, 1, 1, 1],
+];
+
+// The outputs from i on, four of them, by the table of four bits.
+fn outputs_at(spread: &[[u8; 4]; 16], lfsr: u32, i: usize) -> [u8; 4]
+    requires { ⌜ Spreads (now spread) ⌝ }
+    ensures { λ r. ⌜ ((e : ℕ) → e < 4 → getD r e 0 ≡ lfsr / 2 ^ (i % 32) / 2 ^ e % 2) ⌝ }
+{
+    let four = ((lfsr >> (i % 32)) % 16) as usize;
+    spread[four]
 }
 
 // A received symbol with an output taken off.
@@ -77,12 +118,39 @@ pub fn tetra_scramb_get_bits(lfsr_init: u32, out: &mut [u8])
     }
 }
 
+// Four symbols from a place on with their outputs taken off.
+fn descramble_four(outputs: [u8; 4], block: &mut [u8], at: usize)
+    requires { ⌜ ((e : ℕ) → e < 4 → getD outputs e 0 < 2) × (at + 4 ≤ length (now block)) ⌝ }
+    ensures { λ _. ⌜ Taken outputs 4 at (now (block .entry)) (now (block .exit)) ⌝ }
+{
+    let mut e: usize = 0;
+    while e < 4 {
+        block[at + e] = descramble_symbol(block[at + e], outputs[e]);
+        e += 1;
+    }
+}
+
+// As much of a block as whole fours make, with the outputs taken off, and the register that the rest goes on from.
+fn descramble_fours(lfsr_init: u32, block: &mut [u8]) -> u32
+    ensures { λ r. ⌜ Begun «lfsr_init» (length (now (block .entry)) / 4 * 4) r (now (block .entry)) (now (block .exit)) ⌝ }
+{
+    let spread = SPREAD;
+    let mut lfsr = lfsr_init;
+    let mut i: usize = 0;
+    while 4 <= block.len() - i {
+        lfsr = register_at(lfsr, i);
+        descramble_four(outputs_at(&spread, lfsr, i), block, i);
+        i += 4;
+    }
+    lfsr
+}
+
 // Receiving: a block of symbols without its scrambling. Every byte but 0 and 1 becomes an erasure.
 pub fn tetra_descramb_bits(lfsr_init: u32, block: &mut [u8])
     ensures { λ r. ⌜ now (block .exit) ≡ descrambled «lfsr_init» (now (block .entry)) ⌝ }
 {
-    let mut lfsr = lfsr_init;
-    let mut i: usize = 0;
+    let mut lfsr = descramble_fours(lfsr_init, block);
+    let mut i = block.len() / 4 * 4;
     while i < block.len() {
         lfsr = register_at(lfsr, i);
         block[i] = descramble_symbol(block[i], output_at(lfsr, i));

@@ -1,4 +1,4 @@
--- The register has shifted past the eight outputs that the entry before i is among, and the first i outputs stand over the front
+-- The register has shifted past the thirty-two outputs that the entry before i is among, and the first i outputs stand over the front
 -- of the slice.
 use Prim.Native.Nat.{ℕ, _+_, _*_, _/_, _%_, _^_, _≤_, _-_}
 use mathlib.Core.Path.{_≡_, refl, sym, ap, ap₂, _∙_}
@@ -10,13 +10,13 @@ use Rattle.base.specs.Places.{tabulate, written}
 use Rattle.base.proofs.Lists.{tabulate-length, write-none, write-more, written-whole}
 use Rattle.scrambler.specs.Scrambling.{nexts, output}
 use Rattle.scrambler.proofs.Outputs.{nexts-none}
-use Rattle.scrambler.proofs.Eight.{register-more, register-next, register-output}
+use Rattle.scrambler.proofs.AtOnce.{register-more, register-next, register-output}
 use Rattle.scrambler.proofs.tetra_scramb_get_bits.Statement.{statement}
 use Rattle.scrambler.proofs.tetra_scramb_get_bits.Tie as tie
 
 abbrev Inv-loop : tie.InvT-loop
 Inv-loop lfsr-init out₀ lfsr₀ i₀ out lfsr i =
-    (i ≤ length out₀) × (length out ≡ length out₀) × (lfsr ≡ nexts lfsr-init ((i + 7) / 8 * 8)) × (out ≡ written (tabulate (output lfsr-init) i) out₀)
+    (i ≤ length out₀) × (length out ≡ length out₀) × (lfsr ≡ nexts lfsr-init ((i + 31) / 32 * 32)) × (out ≡ written (tabulate (output lfsr-init) i) out₀)
 
 abbrev μ-loop : tie.MeasureT-loop
 μ-loop lfsr-init out₀ lfsr₀ i₀ out lfsr i = length out₀ - i
@@ -48,7 +48,7 @@ loop-again c =
     let x = a .lfsr-init in
     let m = c .before .register-at in
     let r = register-more x (l .lfsr) (m .result) (l .i) (l .inv .2) (m .ensures .0) (m .ensures .1) in
-    let v = c .output-at .ensures ∙ ap (λ (n : ℕ). n / 2 ^ (24 + l .i % 8) % 2) r ∙ register-output x (l .i) (omega arith) in (
+    let v = c .output-at .ensures ∙ ap (λ (n : ℕ). n / 2 ^ (l .i % 32) % 2) r ∙ register-output x (l .i) (omega arith) in (
       omega arith,
       length-set (l .out) (l .i) (c .output-at .result) ∙ l .inv .1,
       r ∙ register-next x (l .i),
