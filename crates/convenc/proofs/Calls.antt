@@ -2,19 +2,21 @@
 -- Assumes nothing.
 use mathlib.Core.Path.{_≡_, refl, sym, ap, subst, _∙_}
 use mathlib.Core.List.{List, [], _∷_, _++_}
-use Prim.Native.Nat.{ℕ, _*_, _≤_}
+use Prim.Native.Nat.{ℕ, _*_, _≤_, _<_}
+use native.Mathlib.Nat.{mul-le-mul-left}
 use native.Mathlib.Omega.{arith}
-use lib.ListN.{length}
+use lib.ListN.{length, take}
+use lib.Seq.{length-take-le}
 use Rattle.base.specs.declared.Outcome.{Outcome}
 use Rattle.base.specs.declared.Outcome.the-variants.{Done}
 use Rattle.base.specs.Refusal.{accepted}
 use Rattle.base.specs.Bits.{Bits}
 use Rattle.base.specs.Places.{written}
-use Rattle.base.proofs.BitLaws.{bits-only-yes}
+use Rattle.base.proofs.BitLaws.{bits-only-yes, bits-only-bits}
 use Rattle.trellis.specs.Nearest.{encode}
 use Rattle.convenc.specs.Generators.{speech, outputs, held, delays, encodeRefusal, Encoded, InTurn}
 use Rattle.convenc.specs.Puncturing.{needed, punctureRefusal, depunctureRefusal}
-use Rattle.convenc.proofs.Delays.{Four, four-after, held-after}
+use Rattle.convenc.proofs.Delays.{Four, four-bits, four-after, held-after}
 use Rattle.convenc.proofs.Encoding.{encode-append}
 use Rattle.convenc.proofs.Refusing.{accepts, refuses-none, moving-none}
 
@@ -23,6 +25,16 @@ pub encode-accepts : (rate : ℕ) (d src : List ℕ) (dst : ℕ) → length src 
 encode-accepts rate d [] dst limit room input delayed = refl
 encode-accepts rate d (b ∷ src) dst limit room input delayed =
     sym (refuses-none rate d (b ∷ src) dst (λ e. omega arith) limit room (bits-only-yes (length (b ∷ src)) (b ∷ src) input) (bits-only-yes 4 d delayed))
+
+-- what is accepted whole is accepted in front
+pub front-accepted : (rate n : ℕ) (d src : List ℕ) (dst : ℕ) → length d ≡ 4 → 0 < length src → n ≤ length src
+    → encodeRefusal rate d src dst ≡ accepted → encodeRefusal rate d (take n src) dst ≡ accepted
+front-accepted rate n d src dst four some h e =
+    let a = accepts rate d src dst e in
+    let l = length-take-le n src h in
+    encode-accepts rate d (take n src) dst (omega (arith, a .limit))
+    (omega (arith, a .room, mul-le-mul-left rate h, ap (λ (m : ℕ). rate * m) l))
+    (bits-only-bits n src (bits-only-yes n src (a .input))) (four-bits d four (a .delayed some) .bits)
 
 pub puncture-accepts : (mode n src dst : ℕ) → mode ≤ 6 → n ≤ 4096 → needed mode n ≤ src → n ≤ dst → punctureRefusal mode n src dst ≡ accepted
 puncture-accepts mode n src dst kind limit source target = sym (moving-none mode n src dst (needed mode n) n kind limit source target)

@@ -3,14 +3,14 @@
 use mathlib.Core.Path.{_≡_, refl, sym, ap, subst, _∙_}
 use mathlib.Core.List.{List, [], _∷_, _++_, append-assoc, map, reverse, reverse-append}
 use mathlib.Core.Bool.{true}
-use Prim.Native.Nat.{ℕ, zero, suc, _+_, _*_, _/_, _≤_, _<_}
+use Prim.Native.Nat.{ℕ, zero, suc, _+_, _-_, _*_, _/_, _≤_, _<_}
 use native.Mathlib.Omega.{arith}
 use lib.ListN.{length, take, getD, length-map}
 use lib.Seq.{take-all, take-take}
 use Rattle.base.specs.Bits.{Bits, bitsOnly}
 use Rattle.base.proofs.BitLaws.{bits-at, bits-only-bits}
 use Rattle.trellis.specs.Nearest.{after}
-use Rattle.convenc.specs.Generators.{held, delays}
+use Rattle.convenc.specs.Generators.{held, delays, newest}
 
 -- four delays that are bits
 pub record Four (d : List ℕ) : Type 0 where
@@ -64,6 +64,23 @@ held-one d b f =
   where
     shift : (p q r s : ℕ) → s < 2 → held (b ∷ p ∷ q ∷ r ∷ []) ≡ 8 * b + held (p ∷ q ∷ r ∷ s ∷ []) / 2
     shift p q r s h = omega arith
+
+-- ---- the delays that an input holds itself
+pub newest-front : (d src : List ℕ) → 4 ≤ length src → newest src 4 ≡ delays d (take 4 src)
+newest-front d [] h = absurd (omega arith)
+newest-front d (p ∷ []) h = absurd (omega arith)
+newest-front d (p ∷ q ∷ []) h = absurd (omega arith)
+newest-front d (p ∷ q ∷ r ∷ []) h = absurd (omega arith)
+newest-front d (p ∷ q ∷ r ∷ s ∷ src) h = refl
+
+pub newest-more : (src : List ℕ) (i : ℕ) → newest src (i + 1) ≡ delays (newest src i) (getD src i 0 ∷ [])
+newest-more src i = rw (last, back 1, back 2, back 3)
+  where
+    last : i + 1 - 1 ≡ i
+    last = omega arith
+
+    back : (k : ℕ) → i + 1 - (k + 1) ≡ i - k
+    back k = omega arith
 
 -- ---- after an input
 pub four-after : (d w : List ℕ) → Four d → Bits w → Four (delays d w)

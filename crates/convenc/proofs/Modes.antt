@@ -1,7 +1,7 @@
 -- Laws of the puncturing modes: the kept positions rise strictly, and the code's table holds them.
 -- Assumes nothing.
 use mathlib.Core.Path.{_≡_, refl, sym, ap, subst, _∙_}
-use mathlib.Core.List.{List, [], _∷_}
+use mathlib.Core.List.{List, []}
 use mathlib.Core.Bool.{Bool, true, false}
 use mathlib.Core.Logic.{_⊎_, inl, inr}
 use Prim.Native.Nat.{ℕ, zero, suc, _+_, _-_, _*_, _/_, _%_, _≤_, _<_}
@@ -14,7 +14,7 @@ use borrow.Author.Tests.{ltb-true, ltb-false, lt-leb}
 use Rattle.base.specs.Bits.{either}
 use Rattle.base.specs.Places.{Apart, Within}
 use Rattle.base.proofs.Table.{below, at}
-use Rattle.convenc.specs.Walk.{runs}
+use Rattle.convenc.specs.Walk.{runs, rows}
 use Rattle.convenc.specs.Puncturing.{outputsKept, periods, kept, index, position, positionOf, keptPlace, needed}
 
 -- a rule of the seven modes
@@ -236,18 +236,6 @@ needed-some mode (suc n) h =
     ap (position mode) e
 
 -- ---- what the code holds
--- the modes' positions, each list filled up with zeros
-abbrev pub rows : List (List ℕ)
-rows =
-    (1 ∷ 2 ∷ 5 ∷ 0 ∷ 0 ∷ 0 ∷ 0 ∷ 0 ∷ 0 ∷ 0 ∷ 0 ∷ 0 ∷ 0 ∷ 0 ∷ 0 ∷ 0 ∷ 0 ∷ [])
-    ∷ (1 ∷ 2 ∷ 3 ∷ 5 ∷ 6 ∷ 7 ∷ 0 ∷ 0 ∷ 0 ∷ 0 ∷ 0 ∷ 0 ∷ 0 ∷ 0 ∷ 0 ∷ 0 ∷ 0 ∷ [])
-    ∷ (1 ∷ 2 ∷ 5 ∷ 0 ∷ 0 ∷ 0 ∷ 0 ∷ 0 ∷ 0 ∷ 0 ∷ 0 ∷ 0 ∷ 0 ∷ 0 ∷ 0 ∷ 0 ∷ 0 ∷ [])
-    ∷ (1 ∷ 2 ∷ 3 ∷ 5 ∷ 6 ∷ 7 ∷ 0 ∷ 0 ∷ 0 ∷ 0 ∷ 0 ∷ 0 ∷ 0 ∷ 0 ∷ 0 ∷ 0 ∷ 0 ∷ [])
-    ∷ (1 ∷ 2 ∷ 4 ∷ 0 ∷ 0 ∷ 0 ∷ 0 ∷ 0 ∷ 0 ∷ 0 ∷ 0 ∷ 0 ∷ 0 ∷ 0 ∷ 0 ∷ 0 ∷ 0 ∷ [])
-    ∷ (1 ∷ 2 ∷ 3 ∷ 4 ∷ 5 ∷ 7 ∷ 8 ∷ 10 ∷ 11 ∷ 0 ∷ 0 ∷ 0 ∷ 0 ∷ 0 ∷ 0 ∷ 0 ∷ 0 ∷ [])
-    ∷ (1 ∷ 2 ∷ 3 ∷ 4 ∷ 5 ∷ 7 ∷ 8 ∷ 10 ∷ 11 ∷ 13 ∷ 14 ∷ 16 ∷ 17 ∷ 19 ∷ 20 ∷ 22 ∷ 23 ∷ [])
-    ∷ []
-
 pub rows-kept : (mode i : ℕ) → mode ≤ 6 → i < t-of mode → getD (getD rows mode []) i 0 ≡ getD (kept-of mode) i 0
 rows-kept mode i h l =
     eqb→eq (getD (getD rows mode []) i 0) (getD (kept-of mode) i 0)

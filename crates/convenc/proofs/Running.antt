@@ -15,9 +15,9 @@ use Rattle.base.proofs.Lists.{written-length}
 use Rattle.base.proofs.BitLaws.{bits-at, bits-only-bits, bits-only-yes}
 use Rattle.base.specs.Refusal.{accepted}
 use Rattle.trellis.specs.Nearest.{encode, after}
-use Rattle.convenc.specs.Generators.{outputs, held, delays, encodeRefusal}
+use Rattle.convenc.specs.Generators.{outputs, held, delays, newest, encodeRefusal}
 use Rattle.convenc.proofs.Encoding.{encode-append, encoded-length, outputs-length}
-use Rattle.convenc.proofs.Delays.{Four, four, four-bits, delays-none, delays-append, four-after, held-after}
+use Rattle.convenc.proofs.Delays.{Four, four, four-bits, delays-none, delays-append, four-after, held-after, newest-front, newest-more}
 use Rattle.convenc.proofs.Refusing.{accepts}
 use Rattle.convenc.proofs.Taps.{taps, taps-outputs, proper}
 
@@ -131,3 +131,25 @@ module _ {code : List (List ℕ)} {d₀ src dst₀ : List ℕ} {i at : ℕ} {d d
             ∙ ap (λ (l : List ℕ). encode (outputs code) (held d₀) (take i src) ++ l)
             (append-nil (outputs code (16 * b + after (held d₀) (take i src)))
             ∙ ap (λ (s : ℕ). outputs code (16 * b + s)) (sym (ap held (run .state) ∙ held-after d₀ (take i src) first before)))
+
+-- ---- delays that are read of the input
+-- before bit i, over the target dst that the loop began with: what it leaves from any delays and any target that led there
+pub record Reading (code : List (List ℕ)) (src dst : List ℕ) (i : ℕ) (dst′ : List ℕ) : Type 0 where
+  pub past : 4 ≤ i
+  pub runs : (d₀ dst₀ : List ℕ) → length d₀ ≡ 4 → encodeRefusal (length code) d₀ src (length dst₀) ≡ accepted
+      → dst ≡ written (encode (outputs code) (held d₀) (take 4 src)) dst₀ → Running code d₀ src dst₀ i (length code * i) (newest src i) dst′
+
+pub reading-none : (code : List (List ℕ)) (src dst : List ℕ) → 4 ≤ length src → Reading code src dst 4 dst
+reading-none code src dst h = record {
+  past = omega arith;
+  runs = λ d₀ dst₀ l accept e. record { four = l; fit = h; place = refl; state = newest-front d₀ src h; target = e };
+}
+
+pub reading-more : {code : List (List ℕ)} {src dst : List ℕ} {i : ℕ} {dst′ dst″ : List ℕ} → Reading code src dst i dst′ → T (proper code) → i < length src
+    → dst″ ≡ sets dst′ (length code * i) (taps code (getD src i 0) (newest src i)) → Reading code src dst (i + 1) dst″
+reading-more {src = src} {i = i} r t h stored = record {
+  past = omega (arith, r .past);
+  runs = λ d₀ dst₀ l accept e.
+      let next = running-more (r .runs d₀ dst₀ l accept e) accept t h (newest-more src i) stored in
+      record { four = l; fit = next .fit; place = refl; state = next .state; target = next .target };
+}

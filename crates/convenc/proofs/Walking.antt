@@ -1,17 +1,18 @@
 -- Going through a mode's positions by a running index: the place that the code holds is the kept place of the next output.
 -- Assumes nothing.
-use mathlib.Core.Path.{_≡_, sym, ap, subst, _∙_}
-use mathlib.Core.List.{[]}
+use mathlib.Core.Path.{_≡_, sym, ap, ap₂, subst, _∙_}
+use mathlib.Core.List.{List, []}
 use Prim.Native.Nat.{ℕ, _+_, _-_, _*_, _/_, _%_, _≤_, _<_}
-use native.Mathlib.Nat.{mul-add, mul-one, mul-zero, zero-div, zero-mod, mod-lt, div-le-self, div-add-mod, mul-le-mul}
+use native.Mathlib.Nat.{mul-add, mul-one, mod-lt, div-le-self, div-add-mod, div-eq-of-lt, mul-le-mul, mul-le-mul-left}
 use native.Mathlib.Omega.{arith}
 use lib.Dec.{leb, leb→le, eqb, eqb→eq}
 use lib.ListN.{getD}
+use Rattle.base.specs.Places.{Within}
 use Rattle.convenc.specs.declared.Puncturer.{Puncturer}
 use Rattle.convenc.specs.declared.Kept.{Kept}
-use Rattle.convenc.specs.Walk.{runs, Sound, Parameters, Lies, Stands}
+use Rattle.convenc.specs.Walk.{runs, rows, Sound, Parameters, Lies, Stands, Period, Periods}
 use Rattle.convenc.specs.Puncturing.{outputsKept, periods, position, keptPlace, needed}
-use Rattle.convenc.proofs.Modes.{t-of, period-of, kept-of, modes, modes-le, entries, stays, wraps, entry, position-entry, rows, rows-kept, index-run, kept-within}
+use Rattle.convenc.proofs.Modes.{t-of, period-of, kept-of, modes, modes-le, entries, quotient, remainder, stays, wraps, entry, position-entry, rows-kept, index-run, kept-within, position-some, position-most}
 
 -- ---- a mode's parameters
 -- the tables, read at a mode
@@ -81,29 +82,38 @@ module _ (p : Puncturer) (j : ℕ) (at : Kept) (sound : Sound p) (stands : Stand
         omega (arith, stands .skip, mul-add (p .run) (j / p .run) 1, mul-one (p .run), div-add-mod j (p .run), sound .run-most),
       )
 
--- where the walk begins
-pub stands-first : (p : Puncturer) {at : Kept} → at .base ≡ 0 → at .index ≡ 0 → at .skip ≡ p .run → Stands p 0 at
-stands-first p b i s =
-    let x : 0 + 0 / p .run ≡ 0 = omega (arith, zero-div (p .run)) in
+-- periods before a position is passed over are few
+pub periods-near : (p : Puncturer) (whole : ℕ) → Sound p → p .t * whole < p .run → p .period * whole ≤ 98304
+periods-near p whole sound h =
+    let few : whole ≤ 4096 = omega (arith, mul-le-mul {n₁ = 1} {m₁ = whole} {n₂ = p .t} {m₂ = whole} (omega (arith, sound .t-least)) (omega arith), sound .run-most) in
+    omega (arith, mul-le-mul (sound .period-most) few)
+
+-- after whole periods, before a position is passed over, the walk stands at a period's begin
+pub stands-after : (p : Puncturer) (whole : ℕ) {at : Kept} → Sound p → p .t * whole < p .run → at .base ≡ p .period * whole → at .index ≡ 0 → at .skip ≡ p .run
+    → Stands p (p .t * whole) at
+stands-after p whole sound h b i s =
+    let none = div-eq-of-lt h in
+    let some : 0 < p .t = omega (arith, sound .t-least) in
+    let x : p .t * whole + p .t * whole / p .run ≡ p .t * whole + 0 = omega (arith, none) in
     record {
       lies = record {
-        base = b ∙ sym (ap (λ (n : ℕ). p .period * (n / p .t)) x ∙ ap (λ (n : ℕ). p .period * n) (zero-div (p .t)) ∙ mul-zero (p .period));
-        index = i ∙ sym (ap (λ (n : ℕ). n % p .t) x ∙ zero-mod (p .t));
+        base = b ∙ sym (ap (λ (n : ℕ). p .period * n) (ap (λ (n : ℕ). n / p .t) x ∙ quotient (p .t) whole 0 some));
+        index = i ∙ sym (ap (λ (n : ℕ). n % p .t) x ∙ remainder (p .t) whole 0 some);
       };
-      skip = s ∙ sym (ap (λ (n : ℕ). p .run * (n + 1)) (zero-div (p .run)) ∙ mul-one (p .run));
+      skip = s ∙ sym (ap (λ (n : ℕ). p .run * (n + 1)) none ∙ mul-one (p .run));
     }
 
 -- ---- the place
--- what is read of the table at an index, and the position that it makes with a base
-pub record Reads (mode j base index : ℕ) : Type 0 where
+-- what is read of a mode's row at an index, and the position that it makes with a base
+pub record Reads (mode : ℕ) (row : List ℕ) (j base index : ℕ) : Type 0 where
   pub entry : index < 17
-  pub some : 1 ≤ getD (getD rows mode []) index 0
-  pub most : getD (getD rows mode []) index 0 ≤ 24
+  pub some : 1 ≤ getD row index 0
+  pub most : getD row index 0 ≤ 24
   pub near : base ≤ 196608
-  pub position : base + getD (getD rows mode []) index 0 ≡ position mode (j + 1)
+  pub position : base + getD row index 0 ≡ position mode (j + 1)
 
 module _ (mode j : ℕ) (p : Puncturer) (h : mode ≤ 6) (l : j < 4096) (par : Parameters mode p) where
-  pub reads : Reads mode j (p .period * ((j + j / p .run) / p .t)) ((j + j / p .run) % p .t)
+  pub reads : Reads mode (getD rows mode []) j (p .period * ((j + j / p .run) / p .t)) ((j + j / p .run) % p .t)
   unfolding entry
   reads = rw (par .t, par .period, par .run) (record {
     entry = omega (arith, r, modes-le t-of (λ m. 17) tt mode h);
@@ -123,13 +133,51 @@ module _ (mode j : ℕ) (p : Puncturer) (h : mode ≤ 6) (l : j < 4096) (par : P
       k : getD (getD rows mode []) (x % t-of mode) 0 ≡ getD (kept-of mode) (x % t-of mode) 0
       k = rows-kept mode (x % t-of mode) h r
 
-  pub here : (at : Kept) → Stands p j at → Reads mode j (at .base) (at .index)
-  here at stands = rw (stands .lies .base, stands .lies .index) reads
+  pub here : {row : List ℕ} → row ≡ getD rows mode [] → (at : Kept) → Stands p j at → Reads mode row j (at .base) (at .index)
+  here e at stands = rw (e, stands .lies .base, stands .lies .index) reads
 
-pub reads-place : {mode j base index : ℕ} → Reads mode j base index → base + getD (getD rows mode []) index 0 - 1 ≡ keptPlace mode j
+pub reads-place : {mode : ℕ} {row : List ℕ} {j base index : ℕ} → Reads mode row j base index → base + getD row index 0 - 1 ≡ keptPlace mode j
 reads-place r = ap (λ (k : ℕ). k - 1) (r .position)
 
 -- a place of the first n lies in what holds k(n) entries
-pub reads-below : {mode j base index : ℕ} (n m : ℕ) → Reads mode j base index → mode ≤ 6 → j < n → needed mode n ≤ m
-    → base + getD (getD rows mode []) index 0 - 1 < m
-reads-below {mode} {j} n m r h l k = omega (arith, reads-place r, kept-within mode h n j l)
+pub reads-below : {mode : ℕ} {row : List ℕ} {j base index : ℕ} (n m : ℕ) → Reads mode row j base index → mode ≤ 6 → j < n → needed mode n ≤ m → base + getD row index 0 - 1 < m
+reads-below {mode} {row} {j} n m r h l k = omega (arith, reads-place r, kept-within mode h n j l)
+
+-- ---- whole periods
+module _ {mode : ℕ} {row : List ℕ} {p : Puncturer} {whole : ℕ} (periods : Periods mode row p whole) where
+  -- one more period ends before the last
+  pub period-fits : (q : ℕ) → q < whole → p .t * q + p .t ≤ p .t * whole
+  period-fits q h = omega (arith, mul-le-mul-left {m = q + 1} {n = whole} (p .t) (omega arith), mul-add (p .t) q 1, mul-one (p .t))
+
+  -- the row says the positions of each period
+  pub period-at : (q : ℕ) → q < whole → Period mode row (p .t) (p .period * q) (p .t * q)
+  period-at q h = record {
+    kind = periods .kind;
+    t-most = sound .t-most;
+    limit = omega (arith, period-fits q h, periods .before, sound .run-most);
+    positions = λ e l.
+        let j : ℕ = p .t * q + e in
+        let before : j < p .run = omega (arith, period-fits q h, periods .before) in
+        let x : j + j / p .run ≡ j = omega (arith, div-eq-of-lt before) in
+        ap (λ (r : List ℕ). p .period * q + getD r e 0) (periods .entries)
+        ∙ sym (ap (λ (n : ℕ). p .period * (n / p .t) + getD (getD rows mode []) (n % p .t) 0) x
+        ∙ ap₂ (λ (m n : ℕ). p .period * m + getD (getD rows mode []) n 0) (quotient (p .t) q e l) (remainder (p .t) q e l))
+        ∙ reads mode j p (periods .kind) (omega (arith, sound .run-most)) (periods .parameters) .position;
+  }
+    where
+      sound : Sound p
+      sound = periods .parameters .sound
+
+-- one entry of a period's row
+module _ {mode : ℕ} {row : List ℕ} {t base j : ℕ} (period : Period mode row t base j) (e : ℕ) (l : e < t) where
+  pub entry-some : 1 ≤ base + getD row e 0
+  entry-some = omega (arith, period .positions e l, position-some mode (period .kind) (j + e))
+
+  pub entry-most : base + getD row e 0 ≤ 20000
+  entry-most = omega (arith, period .positions e l, position-most mode (j + e) (period .kind), period .limit, period .t-most)
+
+  pub entry-place : base + getD row e 0 - 1 ≡ keptPlace mode (j + e)
+  entry-place = ap (λ (k : ℕ). k - 1) (period .positions e l)
+
+  pub entry-within : {n : ℕ} → Within (keptPlace mode) (j + t) n → base + getD row e 0 - 1 < n
+  entry-within w = omega (arith, entry-place, w (j + e) (omega arith))

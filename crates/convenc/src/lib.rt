@@ -3,16 +3,17 @@
 // lent too; what the original panics on is refused by number; a mode is a number that its P, t and period are looked up by.
 // A caller gets the whole output or, beside a refusal, nothing written and the encoder as it was.
 ghost use mathlib.Core.Path.{_≡_};
-ghost use mathlib.Core.List.{[], _∷_};
-ghost use Prim.Native.Nat.{ℕ, _+_, _≤_, _<_, min};
-ghost use lib.ListN.{length};
+ghost use mathlib.Core.List.{List, [], _∷_};
+ghost use Prim.Native.Nat.{ℕ, _+_, _*_, _≤_, _<_, min};
+ghost use lib.ListN.{length, take, getD};
 ghost use Rattle.base.specs.Refusal.{accepted, outcome, unless};
-ghost use Rattle.base.specs.Places.{written};
+ghost use Rattle.base.specs.Places.{written, Within};
 ghost use Rattle.trellis.specs.Nearest.{encode};
-ghost use Rattle.convenc.specs.Generators.{control, controlThird, speech, outputs, held, delays, encodeRefusal, Encoded};
-ghost use Rattle.convenc.specs.Puncturing.{needed, punctureRefusal, depunctureRefusal, punctured, depunctured};
-ghost use Rattle.convenc.specs.Walk.{Sound, Parameters, Lies, Stands};
+ghost use Rattle.convenc.specs.Generators.{control, controlThird, speech, outputs, held, delays, newest, encodeRefusal, Encoded};
+ghost use Rattle.convenc.specs.Puncturing.{needed, keptPlace, punctureRefusal, depunctureRefusal, punctured, depunctured};
+ghost use Rattle.convenc.specs.Walk.{rows, Sound, Parameters, Lies, Stands, Period, Periods};
 ghost use Rattle.convenc.specs.Comparing.{compare, compared};
+ghost use Rattle.convenc.specs.Gathering.{counts, difference, unerased, differing};
 use base::Outcome;
 
 pub mod inner;
@@ -70,6 +71,15 @@ fn shifted(delayed: [u8; 4], bit: u8) -> [u8; 4]
     [bit, delayed[0], delayed[1], delayed[2]]
 }
 
+// The delays after an input of four bits or more: its last four, the newest first.
+fn last_bits(input: &[u8]) -> [u8; 4]
+    requires { ⌜ 4 ≤ length (now input) ⌝ }
+    ensures { λ r. ⌜ r ≡ newest (now (input .entry)) (length (now (input .entry))) ⌝ }
+{
+    let n = input.len();
+    [input[n - 1], input[n - 2], input[n - 3], input[n - 4]]
+}
+
 impl ConvEncState {
     // An encoder that has taken nothing.
     pub fn new() -> Self
@@ -94,7 +104,8 @@ impl ConvEncState {
         ConvEncState { delayed: newer }
     }
 
-    fn encode_from(self, input: &[u8], output: &mut [u8]) -> Self
+    // The code of the input, each bit with the delays that the state holds.
+    fn encode_by_delays(self, input: &[u8], output: &mut [u8]) -> Self
         requires { ⌜ encodeRefusal 4 (self .delayed) (now input) (length (now output)) ≡ accepted ⌝ }
         ensures { λ r. ⌜ (r .delayed ≡ delays (self .delayed) (now (input .entry)))
             × (now (output .exit) ≡ written (encode (outputs control) (held (self .delayed)) (now (input .entry))) (now (output .entry))) ⌝ }
@@ -120,6 +131,34 @@ impl ConvEncState {
         s
     }
 
+    // The same; from the fifth bit on the delays are read of the input itself.
+    fn encode_from(self, input: &[u8], output: &mut [u8]) -> Self
+        requires { ⌜ encodeRefusal 4 (self .delayed) (now input) (length (now output)) ≡ accepted ⌝ }
+        ensures { λ r. ⌜ (r .delayed ≡ delays (self .delayed) (now (input .entry)))
+            × (now (output .exit) ≡ written (encode (outputs control) (held (self .delayed)) (now (input .entry))) (now (output .entry))) ⌝ }
+    {
+        if input.len() < 4 {
+            return self.encode_by_delays(input, output);
+        }
+        self.encode_by_delays(&input[..4], output);
+        let mut i: usize = 4;
+        while i < input.len() {
+            let at = 4 * i;
+            let b = input[i];
+            let newest = input[i - 1];
+            let newer = input[i - 2];
+            let older = input[i - 3];
+            let oldest = input[i - 4];
+            output[at] = b ^ newest ^ oldest;
+            output[at + 1] = b ^ newer ^ older ^ oldest;
+            output[at + 2] = b ^ newest ^ newer ^ oldest;
+            output[at + 3] = b ^ newest ^ older ^ oldest;
+            i += 1;
+        }
+        let delayed = last_bits(input);
+        ConvEncState { delayed: delayed }
+    }
+
     // The rate 1/4 mother code of the input, four entries for each bit.
     pub fn encode(self, input: &[u8], output: &mut [u8]) -> ConvEncoded
         ensures { λ r. ⌜ Encoded control (self .delayed) (now (input .entry)) (now (output .entry)) (r .outcome) (r .state .delayed) (now (output .exit)) ⌝ }
@@ -139,7 +178,8 @@ impl ConvEncState {
         }
     }
 
-    fn encode_rate1_3_from(self, input: &[u8], output: &mut [u8]) -> Self
+    // The code of the input, each bit with the delays that the state holds.
+    fn encode_rate1_3_by_delays(self, input: &[u8], output: &mut [u8]) -> Self
         requires { ⌜ encodeRefusal 3 (self .delayed) (now input) (length (now output)) ≡ accepted ⌝ }
         ensures { λ r. ⌜ (r .delayed ≡ delays (self .delayed) (now (input .entry)))
             × (now (output .exit) ≡ written (encode (outputs controlThird) (held (self .delayed)) (now (input .entry))) (now (output .entry))) ⌝ }
@@ -162,6 +202,33 @@ impl ConvEncState {
             i += 1;
         }
         s
+    }
+
+    // The same; from the fifth bit on the delays are read of the input itself.
+    fn encode_rate1_3_from(self, input: &[u8], output: &mut [u8]) -> Self
+        requires { ⌜ encodeRefusal 3 (self .delayed) (now input) (length (now output)) ≡ accepted ⌝ }
+        ensures { λ r. ⌜ (r .delayed ≡ delays (self .delayed) (now (input .entry)))
+            × (now (output .exit) ≡ written (encode (outputs controlThird) (held (self .delayed)) (now (input .entry))) (now (output .entry))) ⌝ }
+    {
+        if input.len() < 4 {
+            return self.encode_rate1_3_by_delays(input, output);
+        }
+        self.encode_rate1_3_by_delays(&input[..4], output);
+        let mut i: usize = 4;
+        while i < input.len() {
+            let at = 3 * i;
+            let b = input[i];
+            let newest = input[i - 1];
+            let newer = input[i - 2];
+            let older = input[i - 3];
+            let oldest = input[i - 4];
+            output[at] = b ^ newest ^ oldest;
+            output[at + 1] = b ^ newer ^ older ^ oldest;
+            output[at + 2] = b ^ newest ^ newer ^ oldest;
+            i += 1;
+        }
+        let delayed = last_bits(input);
+        ConvEncState { delayed: delayed }
     }
 
     // The first three generators of the control code, three entries for each bit.
@@ -208,7 +275,8 @@ impl SpeechConvEncState {
         SpeechConvEncState { delayed: newer }
     }
 
-    fn encode_from(self, input: &[u8], output: &mut [u8]) -> Self
+    // The code of the input, each bit with the delays that the state holds.
+    fn encode_by_delays(self, input: &[u8], output: &mut [u8]) -> Self
         requires { ⌜ encodeRefusal 3 (self .delayed) (now input) (length (now output)) ≡ accepted ⌝ }
         ensures { λ r. ⌜ (r .delayed ≡ delays (self .delayed) (now (input .entry)))
             × (now (output .exit) ≡ written (encode (outputs speech) (held (self .delayed)) (now (input .entry))) (now (output .entry))) ⌝ }
@@ -231,6 +299,33 @@ impl SpeechConvEncState {
             i += 1;
         }
         s
+    }
+
+    // The same; from the fifth bit on the delays are read of the input itself.
+    fn encode_from(self, input: &[u8], output: &mut [u8]) -> Self
+        requires { ⌜ encodeRefusal 3 (self .delayed) (now input) (length (now output)) ≡ accepted ⌝ }
+        ensures { λ r. ⌜ (r .delayed ≡ delays (self .delayed) (now (input .entry)))
+            × (now (output .exit) ≡ written (encode (outputs speech) (held (self .delayed)) (now (input .entry))) (now (output .entry))) ⌝ }
+    {
+        if input.len() < 4 {
+            return self.encode_by_delays(input, output);
+        }
+        self.encode_by_delays(&input[..4], output);
+        let mut i: usize = 4;
+        while i < input.len() {
+            let at = 3 * i;
+            let b = input[i];
+            let newest = input[i - 1];
+            let newer = input[i - 2];
+            let older = input[i - 3];
+            let oldest = input[i - 4];
+            output[at] = b ^ newest ^ newer ^ older ^ oldest;
+            output[at + 1] = b ^ newest ^ older ^ oldest;
+            output[at + 2] = b ^ newer ^ oldest;
+            i += 1;
+        }
+        let delayed = last_bits(input);
+        SpeechConvEncState { delayed: delayed }
     }
 
     // The speech mother code of the input, three entries for each bit.
@@ -353,25 +448,145 @@ fn next(p: Puncturer, j: usize, at: Kept) -> Kept
     moved(p, at, 1, at.skip)
 }
 
+// The row of P of a mode.
+fn get_kept(mode: u8) -> [u8; 17]
+    requires { ⌜ mode ≤ 6 ⌝ }
+    ensures { λ r. ⌜ r ≡ getD rows mode [] ⌝ }
+{
+    let m = mode as usize;
+    P[m]
+}
+
+// How many periods are kept whole: they end before len, and before a position is passed over.
+fn whole_periods(p: Puncturer, len: usize) -> usize
+    requires { ⌜ Sound p ⌝ }
+    ensures { λ r. ⌜ (p .t * r ≤ len) × (p .t * r < p .run) ⌝ }
+{
+    shorter(len, p.run - 1) / p.t
+}
+
+// The place of the output that follows so many whole periods.
+fn after_periods(p: Puncturer, whole: usize) -> Kept
+    requires { ⌜ Sound p × (p .t * whole < p .run) ⌝ }
+    ensures { λ r. ⌜ Stands p (p .t * whole) r ⌝ }
+{
+    Kept {
+        base: p.period * whole,
+        index: 0,
+        skip: p.run,
+    }
+}
+
+// The outputs of one period, from output j on; its mother entries begin at base.
+fn puncture_period(
+    mode: u8,
+    row: &[u8; 17],
+    t: usize,
+    base: usize,
+    j: usize,
+    input: &[u8],
+    output: &mut [u8],
+)
+    requires { ⌜ Period mode (now row) t base j × Within (keptPlace mode) (j + t) (length (now input)) × (j + t ≤ length (now output)) ⌝ }
+    ensures { λ _. ⌜ ((old : List ℕ) → j + t ≤ length old → now (output .entry) ≡ written (punctured mode j (now (input .entry))) old
+        → now (output .exit) ≡ written (punctured mode (j + t) (now (input .entry))) old) ⌝ }
+{
+    let mut e: usize = 0;
+    while e < t {
+        let from = base + row[e] as usize - 1;
+        output[j + e] = input[from];
+        e += 1;
+    }
+}
+
+// The outputs of the first whole periods.
+fn puncture_periods(
+    mode: u8,
+    row: &[u8; 17],
+    p: Puncturer,
+    whole: usize,
+    input: &[u8],
+    output: &mut [u8],
+)
+    requires { ⌜ Periods mode (now row) p whole × Within (keptPlace mode) (p .t * whole) (length (now input)) × (p .t * whole ≤ length (now output)) ⌝ }
+    ensures { λ _. ⌜ now (output .exit) ≡ written (punctured mode (p .t * whole) (now (input .entry))) (now (output .entry)) ⌝ }
+{
+    let t = p.t;
+    let period = p.period;
+    let mut base: usize = 0;
+    let mut j: usize = 0;
+    let mut q: usize = 0;
+    while q < whole {
+        puncture_period(mode, row, t, base, j, input, output);
+        base += period;
+        j += t;
+        q += 1;
+    }
+}
+
 fn puncture(mode: u8, input: &[u8], len: usize, output: &mut [u8])
     requires { ⌜ punctureRefusal mode len (length (now input)) (length (now output)) ≡ accepted ⌝ }
     ensures { λ _. ⌜ now (output .exit) ≡ written (punctured mode len (now (input .entry))) (now (output .entry)) ⌝ }
 {
     let p = get_puncturer(mode);
-    let m = mode as usize;
-    let kept = P;
-    let mut at = Kept {
-        base: 0,
-        index: 0,
-        skip: p.run,
-    };
-    let mut j: usize = 0;
+    let row = get_kept(mode);
+    let whole = whole_periods(p, len);
+    puncture_periods(mode, &row, p, whole, input, output);
+    let mut at = after_periods(p, whole);
+    let mut j = p.t * whole;
     while j < len {
         let index = at.index;
-        let from = at.base + kept[m][index] as usize - 1;
+        let from = at.base + row[index] as usize - 1;
         output[j] = input[from];
         at = next(p, j, at);
         j += 1;
+    }
+}
+
+// The entries of one period at their mother places, from entry j on; the period's mother entries begin at base.
+fn depuncture_period(
+    mode: u8,
+    row: &[u8; 17],
+    t: usize,
+    base: usize,
+    j: usize,
+    input: &[u8],
+    output: &mut [u8],
+)
+    requires { ⌜ Period mode (now row) t base j × Within (keptPlace mode) (j + t) (length (now output)) × (j + t ≤ length (now input)) ⌝ }
+    ensures { λ _. ⌜ ((old : List ℕ) → now (output .entry) ≡ depunctured mode j (now (input .entry)) old
+        → now (output .exit) ≡ depunctured mode (j + t) (now (input .entry)) old) ⌝ }
+{
+    let mut e: usize = 0;
+    while e < t {
+        let to = base + row[e] as usize - 1;
+        output[to] = input[j + e];
+        e += 1;
+    }
+}
+
+// The entries of the first whole periods at their mother places.
+fn depuncture_periods(
+    mode: u8,
+    row: &[u8; 17],
+    p: Puncturer,
+    whole: usize,
+    input: &[u8],
+    output: &mut [u8],
+)
+    requires { ⌜ Periods mode (now row) p whole × Within (keptPlace mode) (p .t * whole) (length (now output)) × (p .t * whole ≤ length (now input)) ⌝ }
+    ensures { λ _. ⌜ now (output .exit) ≡ depunctured mode (p .t * whole) (now (input .entry)) (now (output .entry)) ⌝ }
+{
+    let t = p.t;
+    let period = p.period;
+    let mut base: usize = 0;
+    let mut j: usize = 0;
+    let mut q: usize = 0;
+    while q < whole {
+        depuncture_period(mode, row, t, base, j, input, output);
+        base += period;
+        j += t;
+        q += 1;
     }
 }
 
@@ -380,17 +595,14 @@ fn depuncture(mode: u8, input: &[u8], len: usize, output: &mut [u8])
     ensures { λ _. ⌜ now (output .exit) ≡ depunctured mode len (now (input .entry)) (now (output .entry)) ⌝ }
 {
     let p = get_puncturer(mode);
-    let m = mode as usize;
-    let kept = P;
-    let mut at = Kept {
-        base: 0,
-        index: 0,
-        skip: p.run,
-    };
-    let mut j: usize = 0;
+    let row = get_kept(mode);
+    let whole = whole_periods(p, len);
+    depuncture_periods(mode, &row, p, whole, input, output);
+    let mut at = after_periods(p, whole);
+    let mut j = p.t * whole;
     while j < len {
         let index = at.index;
-        let to = at.base + kept[m][index] as usize - 1;
+        let to = at.base + row[index] as usize - 1;
         output[to] = input[j];
         at = next(p, j, at);
         j += 1;
@@ -473,21 +685,73 @@ fn shorter(a: usize, b: usize) -> usize
     if a < b { a } else { b }
 }
 
+// 1 for an entry that is compared, 0 for an erasure.
+fn counts(d: u8) -> u8
+    ensures { λ r. ⌜ r ≡ counts d ⌝ }
+{
+    if d == 0xff { 0 } else { 1 }
+}
+
+// 1 for an entry that is compared and differs from the mother's.
+fn difference(m: u8, d: u8) -> u8
+    ensures { λ r. ⌜ r ≡ difference m d ⌝ }
+{
+    if d == 0xff {
+        return 0;
+    }
+    if d == m { 0 } else { 1 }
+}
+
+// How many entries of a short slice are compared.
+fn unerased(s: &[u8]) -> u8
+    requires { ⌜ length (now s) ≤ 255 ⌝ }
+    ensures { λ r. ⌜ r ≡ unerased (now (s .entry)) ⌝ }
+{
+    let mut found: u8 = 0;
+    let mut i: usize = 0;
+    while i < s.len() {
+        found += counts(s[i]);
+        i += 1;
+    }
+    found
+}
+
+// How many of the first n entries are compared, counted in parts that a byte can count.
+fn unerased_among(s: &[u8], n: usize) -> usize
+    requires { ⌜ n ≤ length (now s) ⌝ }
+    ensures { λ r. ⌜ r ≡ unerased (take n (now (s .entry))) ⌝ }
+{
+    let mut found: usize = 0;
+    let mut i: usize = 0;
+    while i < n {
+        let end = i + shorter(n - i, 240);
+        found += unerased(&s[i..end]) as usize;
+        i = end;
+    }
+    found
+}
+
+// 1 where some of the first n entries differ, 0 where none does.
+fn differing(mother: &[u8], depunct: &[u8], n: usize) -> u8
+    requires { ⌜ (n ≤ length (now mother)) × (n ≤ length (now depunct)) ⌝ }
+    ensures { λ r. ⌜ r ≡ differing n (now (mother .entry)) (now (depunct .entry)) ⌝ }
+{
+    let mut found: u8 = 0;
+    let mut i: usize = 0;
+    while i < n {
+        found |= difference(mother[i], depunct[i]);
+        i += 1;
+    }
+    found
+}
+
 // A mother word against a depunctured one, up to the shorter length. Entries 0xff of the depunctured one are skipped.
 pub fn mother_memcmp(mother: &[u8], depunct: &[u8]) -> Compared
     ensures { λ r. ⌜ r ≡ compared (compare (now (mother .entry)) (now (depunct .entry))) ⌝ }
 {
     let n = shorter(mother.len(), depunct.len());
-    let mut matched: usize = 0;
-    for i in 0..n {
-        let d = depunct[i];
-        if d == 0xff {
-            continue;
-        }
-        if d != mother[i] {
-            return Compared::Differs;
-        }
-        matched += 1;
+    if differing(mother, depunct, n) != 0 {
+        return Compared::Differs;
     }
-    Compared::Matched(matched)
+    Compared::Matched(unerased_among(depunct, n))
 }

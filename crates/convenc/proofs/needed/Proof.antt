@@ -1,9 +1,12 @@
 -- The position of the last output, by the formula.
 use mathlib.Core.Path.{sym, _∙_}
+use mathlib.Core.List.{[]}
 use Prim.Native.Nat.{_+_, _-_, _*_, _/_, _%_}
 use native.Mathlib.Nat.{div-le-self}
 use native.Mathlib.Omega.{arith}
+use lib.ListN.{getD}
 use borrow.Author.Needs.{needs}
+use Rattle.convenc.specs.Walk.{rows}
 use Rattle.convenc.proofs.Modes.{needed-none, needed-some}
 use Rattle.convenc.proofs.Walking.{Reads, reads}
 use Rattle.convenc.proofs.needed.Statement.{statement}
@@ -13,6 +16,7 @@ use Rattle.convenc.proofs.needed.Tie as tie
 last : (c : tie.After-get-puncturer)
     → Reads
     (c .before .before .args .mode)
+    (getD rows (c .before .before .args .mode) [])
     (c .before .before .args .n - 1)
     (c .get-puncturer .result .period
     * ((c .before .before .args .n - 1 + (c .before .before .args .n - 1) / c .get-puncturer .result .run) / c .get-puncturer .result .t))

@@ -1,0 +1,106 @@
+-- After q periods the outputs of those periods are written.
+use mathlib.Core.Path.{_≡_, sym, ap, _∙_}
+use Prim.Native.Nat.{ℕ, _+_, _-_, _*_, _≤_}
+use native.Mathlib.Nat.{mul-zero, mul-add, mul-one, mul-le-mul-left}
+use native.Mathlib.Omega.{arith}
+use lib.ListN.{length, getD}
+use borrow.Author.Needs.{needs}
+use Rattle.base.specs.Places.{written}
+use Rattle.base.proofs.Lists.{write-none, write-length}
+use Rattle.convenc.specs.Puncturing.{keptPlace, punctured}
+use Rattle.convenc.proofs.Walking.{periods-near, period-fits, period-at}
+use Rattle.convenc.proofs.puncture_periods.Statement.{statement}
+use Rattle.convenc.proofs.puncture_periods.Tie as tie
+
+abbrev Inv-loop : tie.InvT-loop
+Inv-loop mode row whole input output₀ t period base₀ j₀ q₀ output base j q =
+    (q ≤ whole) × (base ≡ period * q) × (j ≡ t * q) × (output ≡ written (punctured mode j input) output₀)
+
+abbrev μ-loop : tie.MeasureT-loop
+μ-loop mode row whole input output₀ t period base₀ j₀ q₀ output base j q = whole - q
+
+-- the period's end
+fits : (c : tie.In-loop Inv-loop μ-loop)
+    → c .before .loop .j + c .before .before .before .before .args .p .t ≤ c .before .before .before .before .args .p .t * c .before .before .before .before .args .whole
+fits c = omega (arith, period-fits (c .before .before .before .before .pre .0) (c .before .loop .q) (c .loop-test .taken), c .before .loop .inv .2)
+
+kept-length : (c : tie.At-loop Inv-loop μ-loop) → length (c .loop .output) ≡ length (c .before .before .before .args .output .now)
+kept-length c =
+    let s = c .before .before .before in
+    ap length (c .loop .inv .3)
+    ∙ write-length (λ j. getD (s .args .input .now) (keptPlace (s .args .mode) j) 0) (c .loop .j) (s .args .output .now)
+    (omega (arith, c .loop .inv .2, mul-le-mul-left (s .args .p .t) (c .loop .inv .0), s .pre .2))
+
+loop-holds : tie.Need-loop-holds Inv-loop μ-loop
+loop-holds c =
+    let a = c .before .before .args in
+    (omega arith, sym (mul-zero (a .p .period)), sym (mul-zero (a .p .t)), write-none (λ j. getD (a .input .now) (keptPlace (a .mode) j) 0) (a .output .now))
+
+puncture-period-requires : tie.Need-puncture-period-requires Inv-loop μ-loop
+puncture-period-requires c κs =
+    let i = c .before in
+    let l = i .before .loop in
+    let s = i .before .before .before .before in (
+      rw (l .inv .1, l .inv .2) (period-at (s .pre .0) (l .q) (i .loop-test .taken)),
+      λ n h. s .pre .1 n (omega (arith, fits i)),
+      omega (arith, fits i, s .pre .2, kept-length (i .before)),
+    )
+
+add-base : tie.Need-add-base Inv-loop μ-loop
+add-base c =
+    let i = c .before .before .before .before in
+    let s = i .before .before .before .before in
+    omega (
+      arith,
+      i .before .loop .inv .1,
+      periods-near (s .args .p) (i .before .loop .q) (s .pre .0 .parameters .sound) (omega (arith, fits i, i .before .loop .inv .2, s .pre .0 .before)),
+      s .pre .0 .parameters .sound .period-most,
+    )
+
+add-j : tie.Need-add-j Inv-loop μ-loop
+add-j c =
+    let i = c .before .before .before .before in
+    omega (arith, fits i, i .before .before .before .before .pre .2)
+
+add-q : tie.Need-add-q Inv-loop μ-loop
+add-q c = search needs
+
+loop-less : tie.Need-loop-less Inv-loop μ-loop
+loop-less c = search needs
+
+loop-again : tie.Need-loop-again Inv-loop μ-loop
+loop-again c =
+    let i = c .before .before .before .before in
+    let l = i .before .loop in
+    let s = i .before .before .before .before in (
+      omega arith,
+      omega (arith, l .inv .1, mul-add (s .args .p .period) (l .q) 1, mul-one (s .args .p .period)),
+      omega (arith, l .inv .2, mul-add (s .args .p .t) (l .q) 1, mul-one (s .args .p .t)),
+      c .before .before .puncture-period .ensures (s .args .output .now) (omega (arith, fits i, s .pre .2)) (l .inv .3),
+    )
+
+same-length : tie.Need-same-length Inv-loop μ-loop
+same-length c = kept-length (c .before)
+
+returns : tie.Need-returns Inv-loop μ-loop
+returns c =
+    let l = c .before .loop in
+    let a = c .before .before .before .before .args in
+    let all : l .q ≡ a .whole = omega (arith, l .inv .0, c .loop-test .left) in
+    l .inv .3 ∙ ap (λ (n : ℕ). written (punctured (a .mode) n (a .input .now)) (a .output .now)) (l .inv .2 ∙ ap (λ (n : ℕ). a .p .t * n) all)
+
+pub puncture-periods-spec : {M : Type 1} → statement M
+puncture-periods-spec =
+    tie.close
+    (tie.spec
+    Inv-loop
+    μ-loop
+    loop-holds
+    puncture-period-requires
+    add-base
+    add-j
+    add-q
+    loop-less
+    loop-again
+    same-length
+    returns)
