@@ -1,6 +1,6 @@
 -- The parts put together: the word, its count, and what is left in target and trellis.
 -- Assumes nothing.
-use mathlib.Core.Path.{_≡_, refl, sym, ap, _∙_}
+use mathlib.Core.Path.{_≡_, refl, sym, ap, ap₂, _∙_}
 use mathlib.Core.List.{List, [], _∷_, _++_, reverse}
 use Prim.Native.Nat.{ℕ, zero, suc, _+_, _*_, _/_, _%_, _^_, _-_, _≤_, _<_}
 use native.Mathlib.Omega.{arith}
@@ -23,8 +23,9 @@ use Rattle.trellis.proofs.Decoder.{steps-bounded, decode-nearest, decode-distan
 use Rattle.convenc.specs.Generators.{outputs}
 use Rattle.viterbi.specs.declared.Decoded.the-variants.{Word, Refused}
 use Rattle.viterbi.specs.Decoding.{disagreements, decoded, decodeRefusal, cleared, Decodes}
-use Rattle.viterbi.specs.Scores.{down, Marks, Stands, Table, told, Tells, handicap, received, Forward, walk, walkEnd, Back}
+use Rattle.viterbi.specs.Scores.{down, Marks, Stands, mirrored, earlier, Table, told, Tells, handicap, received, Forward, walk, walkEnd, Back}
 use Rattle.viterbi.proofs.Signed.{reads}
+use Rattle.viterbi.proofs.States.{mirrored-back, mirrored-newest, mirrored-earlier}
 use Rattle.viterbi.proofs.Windows.{told-bits}
 use Rattle.viterbi.proofs.Counts.{total-le, each-known}
 use Rattle.viterbi.proofs.Codes.{outputs-length}
@@ -48,20 +49,29 @@ refused code n src target trellis (suc number) h e = record { answers = rw (← 
 -- ---- the walk over the choices is the trellis's own
 module _ (k : ℕ) (t : List (List ℤ)) (src trellis : List ℕ) where
   abbrev Chosen : ℕ → Type 0
-  Chosen n = (i : ℕ) → i < n → Marks (choice handicap (branch disagrees (told k t) k src i) (received k t src i)) (getD trellis i 0)
+  Chosen n = (i : ℕ) → i < n → Marks (λ s. choice handicap (branch disagrees (told k t) k src i) (received k t src i) (mirrored s)) (getD trellis i 0)
 
-  walk-is : (n s : ℕ) → s < 16 → Chosen n → walk trellis n s ≡ trace handicap (received k t src n) s
+  -- the state that a step back leads to
+  abbrev step : ℕ → ℕ → ℕ
+  step i s = earlier (getD trellis i 0 / 2 ^ s % 2) s
+
+  step-is : (n s : ℕ) → s < 16 → Chosen (suc n)
+      → mirrored (step n s) ≡ before (choice handicap (branch disagrees (told k t) k src n) (received k t src n) (mirrored s)) (mirrored s)
+  step-is n s h d =
+      mirrored-earlier (getD trellis n 0 / 2 ^ s % 2) s (omega arith) h
+      ∙ ap (λ (x : ℕ). before x (mirrored s)) (d n (omega arith) s h)
+
+  walk-is : (n s : ℕ) → s < 16 → Chosen n → walk trellis n s ≡ trace handicap (received k t src n) (mirrored s)
   walk-is zero s h d = refl
   walk-is (suc n) s h d =
-      ap (λ (l : List ℕ). s / 8 ∷ l)
-      (walk-is n (before (getD trellis n 0 / 2 ^ s % 2) s) (omega arith) (λ i p. d i (omega arith))
-      ∙ ap (λ (y : ℕ). trace handicap (received k t src n) (before y s)) (d n (omega arith) s h))
+      ap₂ (λ (x : ℕ) (l : List ℕ). x ∷ l) (mirrored-newest s h)
+      (walk-is n (step n s) (omega arith) (λ i p. d i (omega arith)) ∙ ap (trace handicap (received k t src n)) (step-is n s h d))
 
-  end-is : (n s : ℕ) → s < 16 → Chosen n → walkEnd trellis n s ≡ begin handicap (received k t src n) s
-  end-is zero s h d = refl
+  end-is : (n s : ℕ) → s < 16 → Chosen n → walkEnd trellis n s ≡ mirrored (begin handicap (received k t src n) (mirrored s))
+  end-is zero s h d = sym (mirrored-back s h)
   end-is (suc n) s h d =
-      end-is n (before (getD trellis n 0 / 2 ^ s % 2) s) (omega arith) (λ i p. d i (omega arith))
-      ∙ ap (λ (y : ℕ). begin handicap (received k t src n) (before y s)) (d n (omega arith) s h)
+      end-is n (step n s) (omega arith) (λ i p. d i (omega arith))
+      ∙ ap (λ (y : ℕ). mirrored (begin handicap (received k t src n) y)) (step-is n s h d)
 
 -- ---- the walk ends in state 0
 others : (s : ℕ) → 0 < s → 4 * 4 < handicap s
@@ -84,6 +94,7 @@ module _ (k : ℕ) (t : List (List ℤ)) (table : Table k t) (src : List ℕ) (n
   module _ (hn : n ≤ 864) (room : k * n ≤ length src) (m : List ℤ) (was now now′ target target′ : List ℕ) (end : ℕ)
       (f : Forward k t src n m was now) (b : Back n end now now′ target target′) where
     pub never : 0 < end → ⊥
+    unfolding mirrored
     never h = omega (arith, b .ends, end-is k t src now n 0 (omega arith) (f .choices), starts)
 
     -- ---- what the count asks
@@ -99,6 +110,7 @@ module _ (k : ℕ) (t : List (List ℤ)) (table : Table k t) (src : List ℕ) (n
 
     pub count-asks : (symbols : ℕ) → symbols ≡ total known (take (k * n) src)
         → (mag (toZ w16 (ofZ w16 (getD m 0 (pos 0)))) < 20000) × (symbols ≤ 3456) × (down (toZ w16 (ofZ w16 (getD m 0 (pos 0)))) ≤ symbols)
+    unfolding mirrored
     count-asks symbols e =
         rw read (
           small,
@@ -124,7 +136,7 @@ module _ (k : ℕ) (t : List (List ℤ)) (table : Table k t) (src : List ℕ) (n
       decode-is = decode-nearest disagrees (told k t) k wide handicap src n room refl starts ∙ nearest-same far (disagreements code n src) n far-is
 
       word-is : reverse (walk now n 0) ≡ decoded code n src
-      unfolding decode
+      unfolding decode mirrored
       word-is = ap reverse (walk-is k t src now n 0 (omega arith) (f .choices)) ∙ decode-is
 
       count-is : metric handicap (received k t src n) 0 ≡ disagreements code n src (decoded code n src)
@@ -140,6 +152,7 @@ module _ (k : ℕ) (t : List (List ℤ)) (table : Table k t) (src : List ℕ) (n
       pub ran : n ≤ length was → n ≤ length target → (symbols count : ℕ) → symbols ≡ total known (take (k * n) src)
           → ((x : ℕ) → Stands (toZ w16 (ofZ w16 (getD m 0 (pos 0)))) x symbols → count ≡ x)
           → Decodes code n src target target′ was now′ (Word count)
+      unfolding mirrored
       ran ht hd symbols count e h =
           answered code n src target target′ was now′ count (none n (length src) (length was) (length target) k code (tells .rate) hn room ht hd)
           (h (metric handicap (received k t src n) 0) (rw (read, e) (f .scores 0 (omega arith))) ∙ count-is)

@@ -4,7 +4,7 @@ use mathlib.Core.Path.{_≡_, refl, ap, ap₂, _∙_, subst⁻¹}
 use mathlib.Core.Bool.{Bool, true, false}
 use mathlib.Core.List.{List, []}
 use mathlib.Core.Logic.{⊎-elim}
-use Prim.Native.Nat.{ℕ, zero, suc, _+_, _-_, _≤_, _<_}
+use Prim.Native.Nat.{ℕ, zero, suc, _+_, _-_, _<_}
 use native.Mathlib.Omega.{arith}
 use borrow.Author.Tests.{ltb-true, ltb-false}
 use lib.Dec.{ltb}
@@ -15,7 +15,7 @@ use lib.Seq.{getD-set-same, getD-set-other}
 use mir.Syntax.{w8, w16}
 use mir.Val.{SFits, toZ, ofZ}
 use mir.Facts.{toZ-ofZ}
-use Rattle.viterbi.specs.Scores.{Sixteen, Trit, Table, signAt, scoreOf, classOf, Rows, branchOf}
+use Rattle.viterbi.specs.Scores.{Sixteen, Trit, Table, signAt, scoreOf, classOf, Classes, Rows, branchOf}
 use Rattle.viterbi.proofs.Signed.{fits, reads, neg-up, neg-down, mag-add}
 use Rattle.viterbi.proofs.Sixteen.{filled-more}
 
@@ -127,15 +127,10 @@ pub rows-trit : (e : List ℤ) (rows : List (List ℤ)) → Sixteen Trit e → R
 rows-trit e rows h r c l s q = subst⁻¹ Trit (r c s l q) (score-trit c (getD e s (pos 0)) (h s q))
 
 -- ---- classes
-pub class-bit : (r : ℕ) → r < 2 → r ≡ classOf r
-class-bit zero h = refl
-class-bit (suc zero) h = refl
-class-bit (suc (suc r)) h = absurd (omega arith)
-
-pub class-erased : (r : ℕ) → 2 ≤ r → 2 ≡ classOf r
-class-erased zero h = absurd (omega arith)
-class-erased (suc zero) h = absurd (omega arith)
-class-erased (suc (suc r)) h = refl
+pub classes-all : Classes (set (set (replicate 256 2) 0 0) 1 1)
+classes-all zero h = refl
+classes-all (suc zero) h = refl
+classes-all (suc (suc r)) h = getD-replicate 254 r 2 0 (omega arith)
 
 pub class-lt : (r : ℕ) → classOf r < 3
 class-lt zero = omega arith

@@ -1,5 +1,6 @@
 pub mod Signed
 pub mod Sixteen
+pub mod States
 pub mod Branches
 pub mod Windows
 pub mod Ways

@@ -1,6 +1,6 @@
 -- The pass over the symbols: before the first step, and one step more.
 -- Assumes nothing.
-use mathlib.Core.Path.{_≡_, refl, ap, _∙_, subst⁻¹}
+use mathlib.Core.Path.{_≡_, refl, ap, _∙_, subst, subst⁻¹}
 use mathlib.Core.List.{List, []}
 use Prim.Native.Nat.{ℕ, zero, suc, _+_, _*_, _/_, _%_, _^_, _≤_, _<_}
 use native.Mathlib.Nat.{mul-suc, mul-zero, mul-le-mul-left}
@@ -15,8 +15,9 @@ use Rattle.base.proofs.BitLaws.{known-le}
 use Rattle.trellis.specs.Nearest.{total}
 use Rattle.trellis.specs.Trellis.{before, metric, choice, branch}
 use Rattle.trellis.proofs.Paths.{lesser-left}
-use Rattle.viterbi.specs.Scores.{Holds, Marks, Rows, Stands, Small, Table, told, branchOf, firstWay, secondWay, better, oldest, Turned, handicap, received, Forward}
+use Rattle.viterbi.specs.Scores.{Holds, Marks, Rows, Stands, Small, mirrored, earlier, Table, told, branchOf, firstWay, secondWay, better, oldest, Turned, handicap, received, Forward}
 use Rattle.viterbi.proofs.Signed.{mag-of}
+use Rattle.viterbi.proofs.States.{mirrored-earlier, mirrored-handicap}
 use Rattle.viterbi.proofs.Windows.{branch-stands, branch-other}
 use Rattle.viterbi.proofs.Ways.{way-stands}
 use Rattle.viterbi.proofs.Counts.{total-add, total-le}
@@ -42,23 +43,27 @@ module _ (k : ℕ) (t : List (List ℤ)) (table : Table k t) (src : List ℕ) wh
   pub knowns-le : (i : ℕ) → i ≤ 864 → total known (take (k * i) src) ≤ 3456
   knowns-le i h = omega (arith, total-le known (take (k * i) src) known-le, length-take (k * i) src, symbols-le k i (table .most) h)
 
-  metric-le : (i s : ℕ) → s < 16 → k * i ≤ length src → metric handicap (received k t src i) s ≤ 2048 + knowns i
-  metric-le zero zero h l = omega arith
-  metric-le zero (suc s) h l = omega arith
+  handicap-le : (s : ℕ) → handicap s ≤ 2048
+  handicap-le zero = omega arith
+  handicap-le (suc s) = omega arith
+
+  metric-le : (i s : ℕ) → s < 16 → k * i ≤ length src → metric handicap (received k t src i) (mirrored s) ≤ 2048 + knowns i
+  metric-le zero s h l = omega (arith, handicap-le (mirrored s))
   metric-le (suc i) s h l =
       omega (
         arith,
         mul-suc k i,
         knowns-more i,
-        metric-le i (before 0 s) (omega arith) (omega (arith, mul-suc k i)),
+        metric-le i (earlier 0 s) (omega arith) (omega (arith, mul-suc k i)),
+        ap (metric handicap (received k t src i)) (mirrored-earlier 0 s (omega arith) h),
         branch-other t src (k * i) s h k table (omega (arith, mul-suc k i)),
-        lesser-left (metric handicap (received k t src i) (before 0 s) + branch disagrees (told k t) k src i (2 * s + 0))
-            (metric handicap (received k t src i) (before 1 s) + branch disagrees (told k t) k src i (2 * s + 1)),
+        lesser-left (metric handicap (received k t src i) (before 0 (mirrored s)) + branch disagrees (told k t) k src i (2 * mirrored s + 0))
+            (metric handicap (received k t src i) (before 1 (mirrored s)) + branch disagrees (told k t) k src i (2 * mirrored s + 1)),
       )
 
   pub scores-small : (i : ℕ) (m : List ℤ) (was now : List ℕ) → i ≤ 864 → k * i ≤ length src → Forward k t src i m was now → Small 20000 m
   scores-small i m was now h l f s hs =
-      mag-of (getD m s (pos 0)) 20000 (2 * metric handicap (received k t src i) s) (knowns i) (f .scores s hs)
+      mag-of (getD m s (pos 0)) 20000 (2 * metric handicap (received k t src i) (mirrored s)) (knowns i) (f .scores s hs)
       (omega (arith, metric-le i s hs l, knowns-le i h)) (omega (arith, knowns-le i h))
 
   -- ---- before the first step
@@ -69,21 +74,26 @@ module _ (k : ℕ) (t : List (List ℤ)) (table : Table k t) (src : List ℕ) wh
       (omega (arith, ap (λ (j : ℕ). total known (take j src)) (mul-zero k)))
 
   pub forward-none : (was : List ℕ) → Forward k t src 0 (set (replicate 16 (pos 4096)) 0 (pos 0)) was was
-  forward-none was = record { scores = first-scores; choices = λ i h. absurd (omega arith); long = refl; rest = λ i h. refl }
+  forward-none was = record { scores = λ s h. rw (mirrored-handicap s h) (first-scores s h); choices = λ i h. absurd (omega arith); long = refl; rest = λ i h. refl }
 
   -- ---- one step more
   module _ (i : ℕ) (room : k * i + k ≤ length src) (m b new : List ℤ) (was now : List ℕ) (taken : ℕ) (f : Forward k t src i m was now)
       (br : Holds (branchOf t k src (k * i)) b) (tu : Turned m b new taken) where
+    earlier-stands : (x s : ℕ) → x < 2 → s < 16 → Stands (getD m (earlier x s) (pos 0)) (metric handicap (received k t src i) (before x (mirrored s))) (knowns i)
+    earlier-stands x s l h =
+        subst (λ (y : ℕ). Stands (getD m (earlier x s) (pos 0)) (metric handicap (received k t src i) y) (knowns i)) (mirrored-earlier x s l h)
+        (f .scores (earlier x s) (omega arith))
+
     at-state : (s : ℕ) → s < 16
-        → Stands (better (firstWay m b s) (secondWay m b s)) (metric handicap (received k t src (suc i)) s) (knowns (suc i))
-        × (oldest (firstWay m b s) (secondWay m b s) ≡ choice handicap (branch disagrees (told k t) k src i) (received k t src i) s)
+        → Stands (better (firstWay m b s) (secondWay m b s)) (metric handicap (received k t src (suc i)) (mirrored s)) (knowns (suc i))
+        × (oldest (firstWay m b s) (secondWay m b s) ≡ choice handicap (branch disagrees (told k t) k src i) (received k t src i) (mirrored s))
     at-state s h =
         rw (knowns-more i)
-        (way-stands (getD m (before 0 s) (pos 0)) (getD m (before 1 s) (pos 0)) (getD b s (pos 0))
-        (metric handicap (received k t src i) (before 0 s)) (metric handicap (received k t src i) (before 1 s))
-        (branch disagrees (told k t) k src i (2 * s + 0)) (branch disagrees (told k t) k src i (2 * s + 1))
-        (knowns i) (total known (take k (drop (k * i) src))) (f .scores (before 0 s) (omega arith)) (f .scores (before 1 s) (omega arith))
-        (subst⁻¹ (λ (z : ℤ). Stands z (branch disagrees (told k t) k src i (2 * s + 0)) (total known (take k (drop (k * i) src)))) (br s h)
+        (way-stands (getD m (earlier 0 s) (pos 0)) (getD m (earlier 1 s) (pos 0)) (getD b s (pos 0))
+        (metric handicap (received k t src i) (before 0 (mirrored s))) (metric handicap (received k t src i) (before 1 (mirrored s)))
+        (branch disagrees (told k t) k src i (2 * mirrored s + 0)) (branch disagrees (told k t) k src i (2 * mirrored s + 1))
+        (knowns i) (total known (take k (drop (k * i) src))) (earlier-stands 0 s (omega arith) h) (earlier-stands 1 s (omega arith) h)
+        (subst⁻¹ (λ (z : ℤ). Stands z (branch disagrees (told k t) k src i (2 * mirrored s + 0)) (total known (take k (drop (k * i) src)))) (br s h)
         (branch-stands t src (k * i) s h k table room))
         (branch-other t src (k * i) s h k table room))
 
@@ -91,8 +101,8 @@ module _ (k : ℕ) (t : List (List ℤ)) (table : Table k t) (src : List ℕ) wh
     forward-more hi =
         subst⁻¹ (λ (j : ℕ). Forward k t src j new was (set now i taken)) (add-one i)
         (record {
-          scores = λ s h. subst⁻¹ (λ (z : ℤ). Stands z (metric handicap (received k t src (suc i)) s) (knowns (suc i))) (tu .scores s h) (at-state s h .0);
-          choices = λ j l. below-more (λ (j : ℕ). Marks (choice handicap (branch disagrees (told k t) k src j) (received k t src j)) (getD (set now i taken) j 0)) i
+          scores = λ s h. subst⁻¹ (λ (z : ℤ). Stands z (metric handicap (received k t src (suc i)) (mirrored s)) (knowns (suc i))) (tu .scores s h) (at-state s h .0);
+          choices = λ j l. below-more (λ (j : ℕ). Marks (λ s. choice handicap (branch disagrees (told k t) k src j) (received k t src j) (mirrored s)) (getD (set now i taken) j 0)) i
               (λ j l s h. ap (λ (x : ℕ). x / 2 ^ s % 2) (getD-set-other now i j taken 0 (omega arith)) ∙ f .choices j l s h)
               (λ s h. ap (λ (x : ℕ). x / 2 ^ s % 2) (getD-set-same now i taken 0 hi) ∙ tu .bits s h ∙ at-state s h .1)
               j (omega arith);

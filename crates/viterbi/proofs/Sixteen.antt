@@ -1,18 +1,15 @@
--- Loops over the sixteen states: an array whose entry s is written at turn s, and a number whose digit s is put on top at turn s.
+-- Loops over the sixteen states: an array whose entry s is written at turn s, and a number whose digits are put below the others.
 -- Assumes nothing.
-use mathlib.Core.Path.{_≡_, sym, ap, _∙_, subst⁻¹}
+use mathlib.Core.Path.{_≡_, sym, ap, _∙_}
 use mathlib.Core.List.{List}
-use Prim.Native.Nat.{ℕ, zero, suc, _+_, _*_, _/_, _%_, _^_, _<_}
-use native.Mathlib.Nat.{div-div-eq-div-mul, pow-succ', div-one}
-use native.Mathlib.Numerals.{add-one}
+use Prim.Native.Nat.{ℕ, zero, suc, _+_, _*_, _/_, _%_, _^_, _-_, _≤_, _<_}
+use native.Mathlib.Nat.{div-div-eq-div-mul, pow-succ', pow-le-pow-right}
 use native.Mathlib.Omega.{arith}
 use borrow.Author.Count.{below-more}
-use lib.Bits.{bitOr, block-half, block-odd, or-shifted-r}
-use lib.Pow.{high}
-use lib.Arith.{digits-lt}
 use lib.IntN.{ℤ, pos}
 use lib.ListN.{length, getD, set}
 use lib.Seq.{getD-set-same, getD-set-other}
+use Rattle.viterbi.specs.Scores.{Marks}
 
 -- ---- entries
 pub filled-more : (f : ℕ → ℤ) (zs : List ℤ) (s : ℕ) (z : ℤ) → s < length zs → ((j : ℕ) → j < s → getD zs j (pos 0) ≡ f j) → z ≡ f s
@@ -25,32 +22,40 @@ filled-more f zs s z h all here =
 half : (n k : ℕ) → n / 2 ^ suc k ≡ n / 2 / 2 ^ k
 half n k = ap (λ (x : ℕ). n / x) (pow-succ' 2 k) ∙ sym (div-div-eq-div-mul n 2 (2 ^ k))
 
-digit-low : (a s t k : ℕ) → k < s → (a * 2 ^ s + t) / 2 ^ k % 2 ≡ t / 2 ^ k % 2
-digit-low a zero t k h = absurd (omega arith)
-digit-low a (suc s) t zero h =
-    ap (λ (x : ℕ). x % 2) (div-one (a * 2 ^ suc s + t)) ∙ block-odd a s t ∙ ap (λ (x : ℕ). x % 2) (sym (div-one t))
-digit-low a (suc s) t (suc k) h =
-    ap (λ (x : ℕ). x % 2) (half (a * 2 ^ suc s + t) k ∙ ap (λ (x : ℕ). x / 2 ^ k) (block-half a s t))
-    ∙ digit-low a s (t / 2) k (omega arith) ∙ ap (λ (x : ℕ). x % 2) (sym (half t k))
+-- the number of n digits, f s the lowest and f (s + 1) the next
+abbrev pub number : (ℕ → ℕ) → ℕ → ℕ → ℕ
+number f s zero = 0
+number f s (suc n) = f s + 2 * number f (suc s) n
 
-digit-top : (a s t : ℕ) → a < 2 → t < 2 ^ s → (a * 2 ^ s + t) / 2 ^ s % 2 ≡ a
-digit-top a s t h k = ap (λ (x : ℕ). x % 2) (high a s k) ∙ omega arith
+-- a pair of digits below the others
+pub number-pair : (f : ℕ → ℕ) (s t x y : ℕ) → 2 ≤ s → s ≤ 16 → t ≡ number f s (16 - s) → x ≡ f (s - 2) → y ≡ f (s - 2 + 1)
+    → t * 4 + (x + 2 * y) ≡ number f (s - 2) (16 - (s - 2))
+number-pair f s t x y h l e p q =
+    let n : 16 - (s - 2) ≡ suc (suc (16 - s)) = omega arith in
+    let u : suc (s - 2) ≡ s - 2 + 1 = omega arith in
+    let v : suc (s - 2 + 1) ≡ s = omega arith in
+    rw (n, u, v) (omega arith)
 
--- the digits below s are those of f, and there are no others
-abbrev pub MarkedTo : (ℕ → ℕ) → ℕ → ℕ → Type 0
-MarkedTo f s n = (n < 2 ^ s) × ((j : ℕ) → j < s → n / 2 ^ j % 2 ≡ f j)
+module _ (f : ℕ → ℕ) (bit : (j : ℕ) → f j < 2) where
+  number-lt : (s n : ℕ) → number f s n < 2 ^ n
+  number-lt s zero = omega arith
+  number-lt s (suc n) = rw (pow-succ' 2 n) (omega (arith, bit s, number-lt (suc s) n))
 
-mark : (f : ℕ → ℕ) (s t a : ℕ) → a < 2 → MarkedTo f s t → a ≡ f s → MarkedTo f (s + 1) (a * 2 ^ s + t)
-mark f s t a h m here = (
-  rw (add-one, pow-succ' 2 s) (digits-lt h (m .0)),
-  below-more (λ (j : ℕ). (a * 2 ^ s + t) / 2 ^ j % 2 ≡ f j) s (λ j l. digit-low a s t j l ∙ m .1 j l) (digit-top a s t h (m .0) ∙ here),
-)
+  -- there is room for two digits more
+  pub number-room : (s t : ℕ) → 2 ≤ s → s ≤ 16 → t ≡ number f s (16 - s) → t < 16384
+  number-room s t h l e = omega (arith, number-lt s (16 - s), pow-le-pow-right {n = 2} (omega arith) {i = 16 - s} {j = 14} (omega arith))
 
--- a 1 on top, by `|` with its power of two
-pub mark-one : (f : ℕ → ℕ) (s t x n : ℕ) → x ≡ 2 ^ s → n ≡ bitOr t x → MarkedTo f s t → 1 ≡ f s → MarkedTo f (s + 1) n
-mark-one f s t x n e q m here =
-    subst⁻¹ (MarkedTo f (s + 1)) (q ∙ ap (bitOr t) (e ∙ omega arith) ∙ or-shifted-r 1 s t (m .0)) (mark f s t 1 (omega arith) m here)
+  number-digit : (s n j : ℕ) → j < n → number f s n / 2 ^ j % 2 ≡ f (s + j)
+  number-digit s zero j h = absurd (omega arith)
+  number-digit s (suc n) zero h =
+      let e : s ≡ s + 0 = omega arith in
+      omega (arith, bit s, ap f e)
+  number-digit s (suc n) (suc j) h =
+      let e : number f s (suc n) / 2 ≡ number f (suc s) n = omega (arith, bit s) in
+      let i : suc s + j ≡ s + suc j = omega arith in
+      ap (λ (x : ℕ). x % 2) (half (number f s (suc n)) j ∙ ap (λ (x : ℕ). x / 2 ^ j) e) ∙ number-digit (suc s) n j (omega arith) ∙ ap f i
 
--- a 0 on top
-pub mark-nought : (f : ℕ → ℕ) (s t n : ℕ) → n ≡ t → MarkedTo f s t → 0 ≡ f s → MarkedTo f (s + 1) n
-mark-nought f s t n q m here = subst⁻¹ (MarkedTo f (s + 1)) (q ∙ omega arith) (mark f s t 0 (omega arith) m here)
+  pub number-marks : (s t : ℕ) → s ≡ 0 → t ≡ number f s (16 - s) → Marks f t
+  number-marks s t z e j h =
+      let i : 0 + j ≡ j = omega arith in
+      ap (λ (x : ℕ). x / 2 ^ j % 2) (e ∙ ap (λ (x : ℕ). number f x (16 - x)) z) ∙ number-digit 0 16 j h ∙ ap f i

@@ -4,17 +4,17 @@ use mathlib.Core.Path.{_≡_, refl, ap, ap₂}
 use mathlib.Core.Bool.{Bool, true, false, cond}
 use mathlib.Core.List.{List, [], _∷_, _++_, map}
 use mathlib.Core.Logic.{inl, inr}
-use Prim.Native.Nat.{ℕ, zero, suc, _*_, _^_, _<_}
+use Prim.Native.Nat.{ℕ, zero, suc, _*_, _<_}
 use native.Mathlib.Omega.{arith}
 use lib.Dec.{T, eqb, ltb, eqb→eq}
 use borrow.Author.Tests.{le-ltb}
 use lib.IntN.{ℤ, pos, negsuc}
-use lib.ListN.{length, getD, replicate}
+use lib.ListN.{length, replicate}
 use Rattle.base.specs.Bits.{both, either}
 use Rattle.base.specs.Places.{tabulate}
 use Rattle.base.proofs.Table.{both-left, both-right, below, at}
 use Rattle.convenc.specs.Generators.{control, speech, tapped, outputs}
-use Rattle.viterbi.specs.Scores.{Powers, Sign, signAt, Table, told, Tells}
+use Rattle.viterbi.specs.Scores.{mirrored, Sign, signAt, Table, told, Tells}
 
 -- ---- a code's table
 abbrev sign : ℕ → ℤ
@@ -26,7 +26,7 @@ states = 0 ∷ 1 ∷ 2 ∷ 3 ∷ 4 ∷ 5 ∷ 6 ∷ 7 ∷ 8 ∷ 9 ∷ 10 ∷ 11 �
 
 -- what a generator gives at each state after a bit 0
 abbrev row : List ℕ → List ℤ
-row g = map (λ s. sign (tapped g (2 * s))) states
+row g = map (λ s. sign (tapped g (2 * mirrored s))) states
 
 unfoldable pub controlTable : List (List ℤ)
 controlTable = map row control
@@ -92,25 +92,17 @@ tells-of code k t e h = record { rate = e; says = λ x l. same-of (told k t x) (
 
 -- ---- the two codes
 pub control-table : Table 4 controlTable
-unfolding tapped controlTable isTable isSign isNought
+unfolding tapped mirrored controlTable isTable isSign isNought
 control-table = table-of 4 controlTable (omega arith) (omega arith) tt
 
 pub control-tells : Tells control 4 controlTable
-unfolding tapped controlTable same tabulate
+unfolding tapped mirrored controlTable same tabulate
 control-tells = tells-of control 4 controlTable refl tt
 
 pub speech-table : Table 3 speechTable
-unfolding tapped speechTable isTable isSign isNought
+unfolding tapped mirrored speechTable isTable isSign isNought
 speech-table = table-of 3 speechTable (omega arith) (omega arith) tt
 
 pub speech-tells : Tells speech 3 speechTable
-unfolding tapped speechTable same tabulate
+unfolding tapped mirrored speechTable same tabulate
 speech-tells = tells-of speech 3 speechTable refl tt
-
--- ---- the powers of two
-unfoldable pub powersTable : List ℕ
-powersTable = map (λ s. 2 ^ s) states
-
-pub powers-table : Powers powersTable
-unfolding powersTable
-powers-table s h = eqb→eq (getD powersTable s 0) (2 ^ s) (at (λ s. eqb (getD powersTable s 0) (2 ^ s)) 16 tt s h)

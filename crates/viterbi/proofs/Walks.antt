@@ -55,30 +55,30 @@ module _ (n i s : ℕ) (trellis trellis′ target target′ : List ℕ) (w : Wal
       ∙ List·getD-append (take (suc i) trellis) (replicate (n - suc i) 0 ++ drop n trellis) 0 i (omega (arith, length-take-le (suc i) trellis (omega arith)))
       ∙ getD-take (suc i) trellis i 0 (omega arith)
 
-  walked-more : Walked n i (s % 8 * 2 + getD trellis i 0 / 2 ^ s % 2) trellis (set trellis′ i 0) target (set target′ i (s / 8))
+  walked-more : Walked n i (s / 2 + 8 * (getD trellis i 0 / 2 ^ s % 2)) trellis (set trellis′ i 0) target (set target′ i (s % 2))
   walked-more =
       record {
         low = omega arith;
         ends = w .ends;
         clears = ap (λ (l : List ℕ). set l i 0) (w .clears) ∙ put-before trellis (replicate (n - suc i) 0 ++ drop n trellis) i 0 (omega arith)
             ∙ ap (λ (x : ℕ). take i trellis ++ (replicate x 0 ++ drop n trellis)) (sym e);
-        done = s / 8 ∷ w .done;
+        done = s % 2 ∷ w .done;
         long = omega (arith, w .long);
         word = w .word;
-        writes = ap (λ (l : List ℕ). set l i (s / 8)) (w .writes) ∙ put-before target (w .done ++ drop n target) i (s / 8) (omega arith);
+        writes = ap (λ (l : List ℕ). set l i (s % 2)) (w .writes) ∙ put-before target (w .done ++ drop n target) i (s % 2) (omega arith);
         trellis-long = length-set trellis′ i 0 ∙ w .trellis-long;
-        target-long = length-set target′ i (s / 8) ∙ w .target-long;
+        target-long = length-set target′ i (s % 2) ∙ w .target-long;
       }
     where
       e : n - i ≡ suc (n - suc i)
       e = omega arith
 
-  walked-on : Walked n i (s % 8 * 2 + getD trellis′ i 0 / 2 ^ s % 2) trellis (set trellis′ i 0) target (set target′ i (s / 8))
-  walked-on = subst (λ (x : ℕ). Walked n i (s % 8 * 2 + x / 2 ^ s % 2) trellis (set trellis′ i 0) target (set target′ i (s / 8))) (sym choice-is) walked-more
+  walked-on : Walked n i (s / 2 + 8 * (getD trellis′ i 0 / 2 ^ s % 2)) trellis (set trellis′ i 0) target (set target′ i (s % 2))
+  walked-on = subst (λ (x : ℕ). Walked n i (s / 2 + 8 * (x / 2 ^ s % 2)) trellis (set trellis′ i 0) target (set target′ i (s % 2))) (sym choice-is) walked-more
 
 -- a turn of the loop
 pub walked-back : (n i s : ℕ) (trellis trellis′ target target′ : List ℕ) → Walked n i s trellis trellis′ target target′ → 0 < i → i ≤ n → n ≤ length trellis → n ≤ length target
-    → Walked n (i - 1) (s % 8 * 2 + getD trellis′ (i - 1) 0 / 2 ^ s % 2) trellis (set trellis′ (i - 1) 0) target (set target′ (i - 1) (s / 8))
+    → Walked n (i - 1) (s / 2 + 8 * (getD trellis′ (i - 1) 0 / 2 ^ s % 2)) trellis (set trellis′ (i - 1) 0) target (set target′ (i - 1) (s % 2))
 walked-back n zero s trellis trellis′ target target′ w h l p q = absurd (omega arith)
 walked-back n (suc i) s trellis trellis′ target target′ w h l p q =
     let e : suc i - 1 ≡ i = omega arith in

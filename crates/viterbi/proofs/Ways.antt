@@ -3,7 +3,7 @@
 use mathlib.Core.Path.{_≡_, refl, sym, ap, ap₂, _∙_, subst⁻¹}
 use mathlib.Core.List.{List}
 use mathlib.Core.Bool.{Bool, true, false, cond}
-use Prim.Native.Nat.{ℕ, _+_, _*_, _%_, _<_}
+use Prim.Native.Nat.{ℕ, _+_, _/_, _<_}
 use native.Mathlib.Omega.{arith}
 use borrow.Author.Tests.{lt-ltb, le-ltb}
 use lib.Dec.{ltb}
@@ -13,8 +13,8 @@ use lib.ListN.{getD}
 use mir.Syntax.{w16}
 use mir.Val.{SFits, toZ, ofZ}
 use mir.Facts.{toZ-ofZ}
-use Rattle.trellis.specs.Trellis.{before, lesser, taken}
-use Rattle.viterbi.specs.Scores.{Stands, Small, Holds, Marks, firstWay, secondWay, better, oldest, Turned}
+use Rattle.trellis.specs.Trellis.{lesser, taken}
+use Rattle.viterbi.specs.Scores.{Stands, Small, Holds, Marks, earlier, firstWay, secondWay, better, oldest, Turned}
 use Rattle.viterbi.proofs.Signed.{add-parts, take-parts, less-yes, less-no, mag-add, mag-take, fits, reads}
 
 -- ---- in i16
@@ -45,36 +45,36 @@ module _ (x b : ℤ) (hx : mag x < 30000) (hb : mag b < 100) where
 
 -- the same at each state
 module _ (m b : List ℤ) (hm : Small 30000 m) (hb : Small 100 b) (s : ℕ) (hs : s < 16) where
-  place : s % 8 * 2 ≡ before 0 s
+  place : s / 2 ≡ earlier 0 s
   place = omega arith
 
-  pub first-way-fits : SFits w16 (toZ w16 (ofZ w16 (getD m (s % 8 * 2) (pos 0))) +ℤ toZ w16 (ofZ w16 (getD b s (pos 0))))
-  first-way-fits = first-fits (getD m (s % 8 * 2) (pos 0)) (getD b s (pos 0)) (hm (s % 8 * 2) (omega arith)) (hb s hs)
+  pub first-way-fits : SFits w16 (toZ w16 (ofZ w16 (getD m (s / 2) (pos 0))) +ℤ toZ w16 (ofZ w16 (getD b s (pos 0))))
+  first-way-fits = first-fits (getD m (s / 2) (pos 0)) (getD b s (pos 0)) (hm (s / 2) (omega arith)) (hb s hs)
 
-  pub first-way-is : toZ w16 (ofZ w16 (toZ w16 (ofZ w16 (getD m (s % 8 * 2) (pos 0))) +ℤ toZ w16 (ofZ w16 (getD b s (pos 0))))) ≡ firstWay m b s
+  pub first-way-is : toZ w16 (ofZ w16 (toZ w16 (ofZ w16 (getD m (s / 2) (pos 0))) +ℤ toZ w16 (ofZ w16 (getD b s (pos 0))))) ≡ firstWay m b s
   first-way-is =
-      first-is (getD m (s % 8 * 2) (pos 0)) (getD b s (pos 0)) (hm (s % 8 * 2) (omega arith)) (hb s hs)
+      first-is (getD m (s / 2) (pos 0)) (getD b s (pos 0)) (hm (s / 2) (omega arith)) (hb s hs)
       ∙ ap (λ (i : ℕ). getD m i (pos 0) +ℤ getD b s (pos 0)) place
 
-  pub second-way-fits : SFits w16 (toZ w16 (ofZ w16 (getD m (s % 8 * 2 + 1) (pos 0))) -ℤ toZ w16 (ofZ w16 (getD b s (pos 0))))
-  second-way-fits = second-fits (getD m (s % 8 * 2 + 1) (pos 0)) (getD b s (pos 0)) (hm (s % 8 * 2 + 1) (omega arith)) (hb s hs)
+  pub second-way-fits : SFits w16 (toZ w16 (ofZ w16 (getD m (s / 2 + 8) (pos 0))) -ℤ toZ w16 (ofZ w16 (getD b s (pos 0))))
+  second-way-fits = second-fits (getD m (s / 2 + 8) (pos 0)) (getD b s (pos 0)) (hm (s / 2 + 8) (omega arith)) (hb s hs)
 
-  pub second-way-is : toZ w16 (ofZ w16 (toZ w16 (ofZ w16 (getD m (s % 8 * 2 + 1) (pos 0))) -ℤ toZ w16 (ofZ w16 (getD b s (pos 0))))) ≡ secondWay m b s
-  second-way-is = second-is (getD m (s % 8 * 2 + 1) (pos 0)) (getD b s (pos 0)) (hm (s % 8 * 2 + 1) (omega arith)) (hb s hs)
+  pub second-way-is : toZ w16 (ofZ w16 (toZ w16 (ofZ w16 (getD m (s / 2 + 8) (pos 0))) -ℤ toZ w16 (ofZ w16 (getD b s (pos 0))))) ≡ secondWay m b s
+  second-way-is = second-is (getD m (s / 2 + 8) (pos 0)) (getD b s (pos 0)) (hm (s / 2 + 8) (omega arith)) (hb s hs)
 
   first-way-small : mag (firstWay m b s) < 31000
-  first-way-small = first-small (getD m (before 0 s) (pos 0)) (getD b s (pos 0)) (hm (before 0 s) (omega arith)) (hb s hs)
+  first-way-small = first-small (getD m (earlier 0 s) (pos 0)) (getD b s (pos 0)) (hm (earlier 0 s) (omega arith)) (hb s hs)
 
   second-way-small : mag (secondWay m b s) < 31000
-  second-way-small = second-small (getD m (before 1 s) (pos 0)) (getD b s (pos 0)) (hm (before 1 s) (omega arith)) (hb s hs)
+  second-way-small = second-small (getD m (earlier 1 s) (pos 0)) (getD b s (pos 0)) (hm (earlier 1 s) (omega arith)) (hb s hs)
 
 -- ---- the smaller of two
-module _ (p q : ℤ) (hp : mag p < 31000) (hq : mag q < 31000) where
+module _ (p q : ℤ) (fp : SFits w16 p) (fq : SFits w16 q) where
   rp : toZ w16 (ofZ w16 p) ≡ p
-  rp = reads p 31000 hp (omega arith)
+  rp = toZ-ofZ fp
 
   rq : toZ w16 (ofZ w16 q) ≡ q
-  rq = reads q 31000 hq (omega arith)
+  rq = toZ-ofZ fq
 
   test : (t : Bool) → ltZ (toZ w16 (ofZ w16 q)) (toZ w16 (ofZ w16 p)) ≡ t → ltZ q p ≡ t
   test t e = sym (ap₂ ltZ rq rp) ∙ e
@@ -91,7 +91,17 @@ module _ (p q : ℤ) (hp : mag p < 31000) (hq : mag q < 31000) where
   pub marks-first : ltZ (toZ w16 (ofZ w16 q)) (toZ w16 (ofZ w16 p)) ≡ false → 0 ≡ oldest p q
   marks-first t = sym (ap (λ (b : Bool). cond {A = ℕ} b 1 0) (test false t))
 
+pub oldest-lt : (p q : ℤ) → oldest p q < 2
+oldest-lt p q = go (ltZ q p)
+  where
+    go : (t : Bool) → cond t 1 0 < 2
+    go true = omega arith
+    go false = omega arith
+
 -- ---- the arrays of a step
+pub small-reads : (m : List ℤ) → Small 31000 m → (s : ℕ) → s < 16 → toZ w16 (ofZ w16 (getD m s (pos 0))) ≡ getD m s (pos 0)
+small-reads m h s l = reads (getD m s (pos 0)) 31000 (h s l) (omega arith)
+
 pub first-ways-small : (m b p : List ℤ) → Small 30000 m → Small 100 b → Holds (firstWay m b) p → Small 31000 p
 first-ways-small m b p hm hb h s l = subst⁻¹ (λ (z : ℤ). mag z < 31000) (h s l) (first-way-small m b hm hb s l)
 

@@ -12,8 +12,9 @@ use Rattle.base.specs.Bits.{Bits, disagrees, known}
 use Rattle.base.specs.Places.{tabulate}
 use Rattle.base.proofs.BitLaws.{disagrees-other, bits-tabulate}
 use Rattle.trellis.specs.Nearest.{distance, total}
-use Rattle.viterbi.specs.Scores.{up, down, Stands, Sign, bitOf, signAt, Table, turned, told, scoreOf, branchOf}
+use Rattle.viterbi.specs.Scores.{up, down, Stands, Sign, bitOf, mirrored, signAt, Table, turned, told, scoreOf, branchOf}
 use Rattle.viterbi.proofs.Signed.{add-parts}
+use Rattle.viterbi.proofs.States.{mirrored-lt, mirrored-back}
 
 -- ---- one symbol
 by-sign : (P : ℤ → Type 0) → P (negsuc 0) → P (pos 1) → (e : ℤ) → Sign e → P e
@@ -52,17 +53,11 @@ four l at h =
     (next l (at + 2) (at + 3) 1 (omega arith) (omega arith) ∙ ap (λ (x : List ℕ). getD l (at + 2) 0 ∷ x) (next l (at + 3) (at + 4) 0 (omega arith) (omega arith))))
 
 -- ---- a window by its state and its oldest bit
-told-even : (k : ℕ) (t : List (List ℤ)) (s : ℕ) → told k t (2 * s + 0) ≡ tabulate (λ j. bitOf (signAt t j s)) k
-told-even k t s =
-    let p : (2 * s + 0) % 2 ≡ 0 = omega arith in
-    let q : (2 * s + 0) / 2 ≡ s = omega arith in
-    ap₂ (λ (x y : ℕ). tabulate (λ j. turned x (bitOf (signAt t j y))) k) p q
-
-told-odd : (k : ℕ) (t : List (List ℤ)) (s : ℕ) → told k t (2 * s + 1) ≡ tabulate (λ j. 1 - bitOf (signAt t j s)) k
-told-odd k t s =
-    let p : (2 * s + 1) % 2 ≡ 1 = omega arith in
-    let q : (2 * s + 1) / 2 ≡ s = omega arith in
-    ap₂ (λ (x y : ℕ). tabulate (λ j. turned x (bitOf (signAt t j y))) k) p q
+told-is : (k : ℕ) (t : List (List ℤ)) (x s : ℕ) → x < 2 → s < 16 → told k t (2 * mirrored s + x) ≡ tabulate (λ j. turned x (bitOf (signAt t j s))) k
+told-is k t x s l h =
+    let p : (2 * mirrored s + x) % 2 ≡ x = omega arith in
+    let q : (2 * mirrored s + x) / 2 ≡ mirrored s = omega arith in
+    ap₂ (λ (x y : ℕ). tabulate (λ j. turned x (bitOf (signAt t j y))) k) p (ap mirrored q ∙ mirrored-back s h)
 
 -- ---- a step of three symbols, or of four
 module _ (t : List (List ℤ)) (src : List ℕ) (at s : ℕ) (hs : s < 16) where
@@ -152,19 +147,19 @@ module _ (t : List (List ℤ)) (src : List ℕ) (at s : ℕ) (hs : s < 16) where
   by-width P a b (suc (suc (suc (suc (suc k))))) h l = absurd (omega arith)
 
   pub branch-stands : (k : ℕ) → Table k t → at + k ≤ length src
-      → Stands (branchOf t k src at s) (distance disagrees (take k (drop at src)) (told k t (2 * s + 0))) (total known (take k (drop at src)))
+      → Stands (branchOf t k src at s) (distance disagrees (take k (drop at src)) (told k t (2 * mirrored s + 0))) (total known (take k (drop at src)))
   unfolding y
   branch-stands k h room =
-      rw (told-even k t s)
+      rw (told-is k t 0 s (omega arith) hs)
       (by-width (λ (k : ℕ). Table k t → at + k ≤ length src → Stands (branchOf t k src at s) (distance disagrees (take k (drop at src)) (tabulate y k)) (total known (take k (drop at src))))
       stands-three stands-four k (h .least) (h .most) h room)
 
   -- the two windows into a state disagree with each known symbol once
   pub branch-other : (k : ℕ) → Table k t → at + k ≤ length src
-      → distance disagrees (take k (drop at src)) (told k t (2 * s + 0)) + distance disagrees (take k (drop at src)) (told k t (2 * s + 1)) ≡ total known (take k (drop at src))
+      → distance disagrees (take k (drop at src)) (told k t (2 * mirrored s + 0)) + distance disagrees (take k (drop at src)) (told k t (2 * mirrored s + 1)) ≡ total known (take k (drop at src))
   unfolding y
   branch-other k h room =
-      rw (told-even k t s, told-odd k t s)
+      rw (told-is k t 0 s (omega arith) hs, told-is k t 1 s (omega arith) hs)
       (by-width (λ (k : ℕ). Table k t → at + k ≤ length src → distance disagrees (take k (drop at src)) (tabulate y k) + distance disagrees (take k (drop at src)) (tabulate (λ j. 1 - y j) k) ≡ total known (take k (drop at src)))
       other-three other-four k (h .least) (h .most) h room)
 
@@ -175,5 +170,7 @@ turned-lt (suc x) b h = omega arith
 
 pub told-bits : (k : ℕ) (t : List (List ℤ)) → Table k t → (x : ℕ) → x < 32 → Bits (told k t x)
 told-bits k t h x b =
-    bits-tabulate (λ j. turned (x % 2) (bitOf (signAt t j (x / 2)))) k
-    (λ j l. turned-lt (x % 2) (bitOf (signAt t j (x / 2))) (sign-bit (signAt t j (x / 2)) (h .signs j (x / 2) l (omega arith))))
+    bits-tabulate (λ j. turned (x % 2) (bitOf (signAt t j s))) k (λ j l. turned-lt (x % 2) (bitOf (signAt t j s)) (sign-bit (signAt t j s) (h .signs j s l (mirrored-lt (x / 2)))))
+  where
+    s : ℕ
+    s = mirrored (x / 2)

@@ -12,7 +12,7 @@ use lib.ListN.{length, getD, take}
 use Rattle.base.specs.Bits.{disagrees, known}
 use Rattle.base.specs.Places.{tabulate, written}
 use Rattle.trellis.specs.Nearest.{total}
-use Rattle.trellis.specs.Trellis.{before, metric, choice, branch, steps}
+use Rattle.trellis.specs.Trellis.{metric, choice, branch, steps}
 use Rattle.convenc.specs.Generators.{outputs}
 use Rattle.viterbi.specs.Decoding.{cleared}
 
@@ -41,13 +41,18 @@ Holds f zs = (s : ℕ) → s < 16 → getD zs s (pos 0) ≡ f s
 abbrev pub Marks : (ℕ → ℕ) → ℕ → Type 0
 Marks f n = (s : ℕ) → s < 16 → n / 2 ^ s % 2 ≡ f s
 
--- entry s is 2 ^ s
-abbrev pub Powers : List ℕ → Type 0
-Powers ps = (s : ℕ) → s < 16 → getD ps s 0 ≡ 2 ^ s
-
 -- each entry is at least - h and below h
 abbrev pub Small : ℕ → List ℤ → Type 0
 Small h = Sixteen (λ z. mag z < h)
+
+-- ---- the order of the states: the arrays count them with the newest bit lowest, the trellis with the newest bit highest
+-- the four binary digits of a state read backwards
+unfoldable pub mirrored : ℕ → ℕ
+mirrored s = s % 2 * 8 + s / 2 % 2 * 4 + s / 4 % 2 * 2 + s / 8 % 2
+
+-- the state before s whose oldest bit was x, in the order of the arrays
+abbrev pub earlier : ℕ → ℕ → ℕ
+earlier x s = s / 2 + 8 * x
 
 -- ---- the table of expected bits: -1 for 0, 1 for 1
 -- what generator j's row expects at state s, if the bit before the state's four was 0
@@ -81,7 +86,7 @@ turned (suc x) b = 1 - b
 
 -- the symbols that the table says of a window
 abbrev pub told : ℕ → List (List ℤ) → ℕ → List ℕ
-told k t x = tabulate (λ j. turned (x % 2) (bitOf (signAt t j (x / 2)))) k
+told k t x = tabulate (λ j. turned (x % 2) (bitOf (signAt t j (mirrored (x / 2))))) k
 
 -- the table says of each window what the code does
 pub record Tells (code : List (List ℕ)) (k : ℕ) (t : List (List ℤ)) : Type 0 where
@@ -101,6 +106,10 @@ classOf zero = 0
 classOf (suc zero) = 1
 classOf (suc (suc r)) = 2
 
+-- the class of each symbol that a byte can be
+abbrev pub Classes : List ℕ → Type 0
+Classes l = (r : ℕ) → r < 256 → getD l r 0 ≡ classOf r
+
 -- one row for each class, of what its symbols add where the signs e are expected
 abbrev pub Rows : List ℤ → List (List ℤ) → Type 0
 Rows e rows = (c s : ℕ) → c < 3 → s < 16 → getD (getD rows c []) s (pos 0) ≡ scoreOf c (getD e s (pos 0))
@@ -118,10 +127,10 @@ branchOf t k src at s =
 -- ---- a step
 -- the scores of the two ways into state s, by an oldest bit 0 and by an oldest bit 1
 abbrev pub firstWay : List ℤ → List ℤ → ℕ → ℤ
-firstWay m b s = getD m (before 0 s) (pos 0) +ℤ getD b s (pos 0)
+firstWay m b s = getD m (earlier 0 s) (pos 0) +ℤ getD b s (pos 0)
 
 abbrev pub secondWay : List ℤ → List ℤ → ℕ → ℤ
-secondWay m b s = getD m (before 1 s) (pos 0) -ℤ getD b s (pos 0)
+secondWay m b s = getD m (earlier 1 s) (pos 0) -ℤ getD b s (pos 0)
 
 -- of two ways the second is taken only where its score is smaller: the score that is taken, and its oldest bit
 abbrev pub better : ℤ → ℤ → ℤ
@@ -147,19 +156,19 @@ received k t src n = steps disagrees (told k t) k src n
 
 -- after n steps each score stands for its path's cost, and the trellis holds the choices
 pub record Forward (k : ℕ) (t : List (List ℤ)) (src : List ℕ) (n : ℕ) (m : List ℤ) (was now : List ℕ) : Type 0 where
-  pub scores : (s : ℕ) → s < 16 → Stands (getD m s (pos 0)) (metric handicap (received k t src n) s) (total known (take (k * n) src))
-  pub choices : (i : ℕ) → i < n → Marks (choice handicap (branch disagrees (told k t) k src i) (received k t src i)) (getD now i 0)
+  pub scores : (s : ℕ) → s < 16 → Stands (getD m s (pos 0)) (metric handicap (received k t src n) (mirrored s)) (total known (take (k * n) src))
+  pub choices : (i : ℕ) → i < n → Marks (λ s. choice handicap (branch disagrees (told k t) k src i) (received k t src i) (mirrored s)) (getD now i 0)
   pub long : length now ≡ length was
   pub rest : (i : ℕ) → n ≤ i → getD now i 0 ≡ getD was i 0
 
 -- the bits that a walk back over n steps of a trellis meets, the last first, and the state in which it ends
 abbrev pub walk : List ℕ → ℕ → ℕ → List ℕ
 walk trellis zero s = []
-walk trellis (suc i) s = s / 8 ∷ walk trellis i (before (getD trellis i 0 / 2 ^ s % 2) s)
+walk trellis (suc i) s = s % 2 ∷ walk trellis i (earlier (getD trellis i 0 / 2 ^ s % 2) s)
 
 abbrev pub walkEnd : List ℕ → ℕ → ℕ → ℕ
 walkEnd trellis zero s = s
-walkEnd trellis (suc i) s = walkEnd trellis i (before (getD trellis i 0 / 2 ^ s % 2) s)
+walkEnd trellis (suc i) s = walkEnd trellis i (earlier (getD trellis i 0 / 2 ^ s % 2) s)
 
 -- the walk wrote its bits over the front of the target, in the order of the air, and cleared what it read
 pub record Back (n end : ℕ) (trellis trellis′ target target′ : List ℕ) : Type 0 where

@@ -1,4 +1,5 @@
-// The parts of the decoders: these ask something of their caller.
+// The parts of the decoders: these ask something of their caller. The newest bit is the lowest of a state's number, so that the
+// two states before s are s / 2 and s / 2 + 8, and whole arrays are read in order.
 ghost use mathlib.Core.Path.{_≡_};
 ghost use mathlib.Core.List.{List, []};
 ghost use Prim.Native.Nat.{ℕ, _+_, _*_, _≤_, _<_};
@@ -8,7 +9,7 @@ ghost use lib.ListN.{length, getD, take};
 ghost use Rattle.base.specs.Bits.{known};
 ghost use Rattle.trellis.specs.Nearest.{total};
 ghost use Rattle.viterbi.specs.Decoding.{decodeRefusal, Decodes};
-ghost use Rattle.viterbi.specs.Scores.{Sixteen, Holds, Marks, Powers, Small, Trit, Trits, Stands, Table, Tells, Rows, classOf, branchOf, firstWay, secondWay, better, oldest, Turned, Forward, Back, down};
+ghost use Rattle.viterbi.specs.Scores.{Sixteen, Holds, Marks, Small, Trit, Trits, Stands, Table, Tells, Rows, classOf, Classes, branchOf, firstWay, secondWay, better, oldest, Turned, Forward, Back, down};
 use super::Decoded;
 
 // The refusals of document 01.
@@ -48,11 +49,22 @@ fn rows(e: [i8; 16]) -> [[i16; 16]; 3]
     r
 }
 
-// A symbol's class: 0 and 1 for the bits, 2 for every erasure.
-fn class(symbol: u8) -> usize
+// The class of each symbol: 0 and 1 for the bits, 2 for every erasure. To look it up is quicker than to work it out.
+fn symbol_classes() -> [u8; 256]
+    ensures { λ r. ⌜ Classes r ⌝ }
+{
+    let mut r = [2u8; 256];
+    r[0] = 0;
+    r[1] = 1;
+    r
+}
+
+// A symbol's class, by the table of all.
+fn class(classes: &[u8; 256], symbol: u8) -> usize
+    requires { ⌜ Classes (now classes) ⌝ }
     ensures { λ r. ⌜ (r ≡ classOf symbol) × (r < 3) ⌝ }
 {
-    if symbol < 2 { symbol as usize } else { 2 }
+    classes[symbol as usize] as usize
 }
 
 // Four rows added up.
@@ -73,18 +85,19 @@ fn branches(
     b: &[[i16; 16]; 3],
     c: &[[i16; 16]; 3],
     d: &[[i16; 16]; 3],
+    classes: &[u8; 256],
     k: usize,
     source: &[u8],
     at: usize,
 ) -> [i16; 16]
-    requires { ⌜ Trits (now a) × Trits (now b) × Trits (now c) × Trits (now d) × (2 < k) × (at + k ≤ length (now source)) ⌝ }
+    requires { ⌜ Trits (now a) × Trits (now b) × Trits (now c) × Trits (now d) × Classes (now classes) × (2 < k) × (at + k ≤ length (now source)) ⌝ }
     ensures { λ r. ⌜ ((t : List (List ℤ)) → Rows (getD t 0 []) (now (a .entry)) → Rows (getD t 1 []) (now (b .entry)) → Rows (getD t 2 []) (now (c .entry))
         → Rows (getD t 3 []) (now (d .entry)) → Holds (branchOf t k (now (source .entry)) at) r) ⌝ }
 {
-    let p = class(source[at]);
-    let q = class(source[at + 1]);
-    let r = class(source[at + 2]);
-    let s = class(source[at + (k - 1)]);
+    let p = class(classes, source[at]);
+    let q = class(classes, source[at + 1]);
+    let r = class(classes, source[at + 2]);
+    let s = class(classes, source[at + (k - 1)]);
     sums(a[p], b[q], c[r], d[s])
 }
 
@@ -95,7 +108,7 @@ fn first_ways(m: [i16; 16], b: [i16; 16]) -> [i16; 16]
 {
     let mut r = [0i16; 16];
     for s in 0..16 {
-        r[s] = m[s % 8 * 2] + b[s];
+        r[s] = m[s / 2] + b[s];
     }
     r
 }
@@ -107,7 +120,7 @@ fn second_ways(m: [i16; 16], b: [i16; 16]) -> [i16; 16]
 {
     let mut r = [0i16; 16];
     for s in 0..16 {
-        r[s] = m[s % 8 * 2 + 1] - b[s];
+        r[s] = m[s / 2 + 8] - b[s];
     }
     r
 }
@@ -128,23 +141,31 @@ fn lessers(p: [i16; 16], q: [i16; 16]) -> [i16; 16]
     r
 }
 
-// Bit s is 1 where the second of two ways into state s has the smaller score.
-fn choices(powers: [u16; 16], p: [i16; 16], q: [i16; 16]) -> u16
-    requires { ⌜ Powers powers × Small 31000 p × Small 31000 q ⌝ }
+// 1 where the second of two scores is smaller.
+fn chosen(p: i16, q: i16) -> u16
+    ensures { λ r. ⌜ (r ≡ oldest p q) × (r < 2) ⌝ }
+{
+    if q < p { 1 } else { 0 }
+}
+
+// Bit s is 1 where the second of two ways into state s has the smaller score. The bits are put in by pairs, from the highest
+// down: of that the compiler makes a single instruction.
+fn choices(p: [i16; 16], q: [i16; 16]) -> u16
+    requires { ⌜ Small 31000 p × Small 31000 q ⌝ }
     ensures { λ r. ⌜ Marks (λ s. oldest (getD p s (pos 0)) (getD q s (pos 0))) r ⌝ }
 {
     let mut taken: u16 = 0;
-    for s in 0..16 {
-        if q[s] < p[s] {
-            taken |= powers[s];
-        }
+    let mut s: usize = 16;
+    while 0 < s {
+        s -= 2;
+        taken = taken * 4 + (chosen(p[s], q[s]) + 2 * chosen(p[s + 1], q[s + 1]));
     }
     taken
 }
 
 // One step of all sixteen states. The loops stand apart, each over whole arrays, so that they become vector code.
-fn advance(powers: [u16; 16], old: Scores, b: [i16; 16]) -> Turn
-    requires { ⌜ Powers powers × Small 30000 (old .m) × Small 100 b ⌝ }
+fn advance(old: Scores, b: [i16; 16]) -> Turn
+    requires { ⌜ Small 30000 (old .m) × Small 100 b ⌝ }
     ensures { λ r. ⌜ Turned (old .m) b (r .scores .m) (r .taken) ⌝ }
 {
     let m = old.m;
@@ -153,22 +174,22 @@ fn advance(powers: [u16; 16], old: Scores, b: [i16; 16]) -> Turn
     let next = lessers(p, q);
     Turn {
         scores: Scores { m: next },
-        taken: choices(powers, p, q),
+        taken: choices(p, q),
     }
 }
 
 // The pass over n steps: the scores after them, and the choices at each in the trellis.
 fn forward(
-    powers: [u16; 16],
     expected: [[i8; 16]; 4],
     k: usize,
     source: &[u8],
     n: usize,
     trellis: &mut [u16],
 ) -> Scores
-    requires { ⌜ Powers powers × Table k expected × (n ≤ 864) × (k * n ≤ length (now source)) × (n ≤ length (now trellis)) ⌝ }
+    requires { ⌜ Table k expected × (n ≤ 864) × (k * n ≤ length (now source)) × (n ≤ length (now trellis)) ⌝ }
     ensures { λ r. ⌜ Forward k expected (now (source .entry)) n (r .m) (now (trellis .entry)) (now (trellis .exit)) ⌝ }
 {
+    let classes = symbol_classes();
     let a = rows(expected[0]);
     let b = rows(expected[1]);
     let c = rows(expected[2]);
@@ -179,7 +200,7 @@ fn forward(
     let mut i: usize = 0;
     let mut at: usize = 0;
     while i < n {
-        let turn = advance(powers, scores, branches(&a, &b, &c, &d, k, source, at));
+        let turn = advance(scores, branches(&a, &b, &c, &d, &classes, k, source, at));
         trellis[i] = turn.taken;
         let next = turn.scores;
         scores = next;
@@ -198,8 +219,8 @@ fn back(n: usize, trellis: &mut [u16], target: &mut [u8]) -> u16
     let mut s: u16 = 0;
     while 0 < i {
         i -= 1;
-        target[i] = (s / 8) as u8;
-        s = s % 8 * 2 + (trellis[i] >> s) % 2;
+        target[i] = (s % 2) as u8;
+        s = s / 2 + 8 * ((trellis[i] >> s) % 2);
         trellis[i] = 0;
     }
     s
@@ -250,7 +271,6 @@ fn refusal(k: usize, n: usize, source: usize, trellis: usize, target: usize) -> 
 
 // The decoder where nothing is refused before it. START stands last, as document 01 has it, and is never met.
 fn run(
-    powers: [u16; 16],
     expected: [[i8; 16]; 4],
     k: usize,
     source: &[u8],
@@ -258,11 +278,11 @@ fn run(
     n: usize,
     trellis: &mut [u16],
 ) -> Decoded
-    requires { ⌜ Powers powers × Table k expected × (n ≤ 864) × (k * n ≤ length (now source)) × (n ≤ length (now trellis)) × (n ≤ length (now target)) ⌝ }
+    requires { ⌜ Table k expected × (n ≤ 864) × (k * n ≤ length (now source)) × (n ≤ length (now trellis)) × (n ≤ length (now target)) ⌝ }
     ensures { λ r. ⌜ ((code : List (List ℕ)) → Tells code k expected
         → Decodes code n (now (source .entry)) (now (target .entry)) (now (target .exit)) (now (trellis .entry)) (now (trellis .exit)) r) ⌝ }
 {
-    let scores = forward(powers, expected, k, source, n, trellis);
+    let scores = forward(expected, k, source, n, trellis);
     let z = scores.m[0];
     if 0 < back(n, trellis, target) {
         return Decoded::Refused(START);
@@ -272,7 +292,6 @@ fn run(
 
 // Both decoders: n steps of k symbols over a table of expected bits.
 pub fn decode(
-    powers: [u16; 16],
     expected: [[i8; 16]; 4],
     k: usize,
     source: &[u8],
@@ -280,7 +299,7 @@ pub fn decode(
     n: usize,
     trellis: &mut [u16],
 ) -> Decoded
-    requires { ⌜ Powers powers × Table k expected ⌝ }
+    requires { ⌜ Table k expected ⌝ }
     ensures { λ r. ⌜ ((code : List (List ℕ)) → Tells code k expected
         → Decodes code n (now (source .entry)) (now (target .entry)) (now (target .exit)) (now (trellis .entry)) (now (trellis .exit)) r) ⌝ }
 {
@@ -288,5 +307,5 @@ pub fn decode(
     if 0 < number {
         return Decoded::Refused(number);
     }
-    run(powers, expected, k, source, target, n, trellis)
+    run(expected, k, source, target, n, trellis)
 }

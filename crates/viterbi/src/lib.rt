@@ -12,40 +12,21 @@ pub enum Decoded {
 
 mod inner;
 
-// Rows of expected bits, -1 for 0 and 1 for 1, at each state when the bit before the state's four was 0 (EN 300 392-2, 8.2.3.1.1).
+// Rows of expected bits, -1 for 0 and 1 for 1, at each state, its newest bit lowest, when the bit before the state's four was 0
+// (EN 300 392-2, 8.2.3.1.1).
 const CONTROL: [[i8; 16]; 4] = [
-    [-1, -1, -1, -1, 1, 1, 1, 1, 1, 1, 1, 1, -1, -1, -1, -1],
-    [-1, 1, 1, -1, -1, 1, 1, -1, 1, -1, -1, 1, 1, -1, -1, 1],
-    [-1, -1, 1, 1, 1, 1, -1, -1, 1, 1, -1, -1, -1, -1, 1, 1],
+    [-1, 1, 1, -1, -1, 1, 1, -1, -1, 1, 1, -1, -1, 1, 1, -1],
     [-1, 1, -1, 1, 1, -1, 1, -1, 1, -1, 1, -1, -1, 1, -1, 1],
+    [-1, 1, 1, -1, 1, -1, -1, 1, -1, 1, 1, -1, 1, -1, -1, 1],
+    [-1, 1, 1, -1, -1, 1, 1, -1, 1, -1, -1, 1, 1, -1, -1, 1],
 ];
 
 // The same for the three generators of EN 300 395-2, 5.4.3.1, with a row of zeros.
 const SPEECH: [[i8; 16]; 4] = [
     [-1, 1, 1, -1, 1, -1, -1, 1, 1, -1, -1, 1, -1, 1, 1, -1],
-    [-1, 1, -1, 1, 1, -1, 1, -1, 1, -1, 1, -1, -1, 1, -1, 1],
-    [-1, -1, 1, 1, -1, -1, 1, 1, 1, 1, -1, -1, 1, 1, -1, -1],
+    [-1, 1, 1, -1, -1, 1, 1, -1, 1, -1, -1, 1, 1, -1, -1, 1],
+    [-1, 1, -1, 1, 1, -1, 1, -1, -1, 1, -1, 1, 1, -1, 1, -1],
     [0, 0, 0, 0, 0, 0, 0, 0, 0, 0, 0, 0, 0, 0, 0, 0],
-];
-
-// Handed in as a parameter: where the compiler sees these numbers it makes slower code of the choices.
-const POWERS: [u16; 16] = [
-    1,
-    2,
-    4,
-    8,
-    16,
-    32,
-    64,
-    128,
-    256,
-    512,
-    1024,
-    2048,
-    4096,
-    8192,
-    16384,
-    32768,
 ];
 
 // Decodes sym_count steps of four control symbols each: 0 and 1 are bits, every other byte is an erasure.
@@ -53,7 +34,7 @@ pub fn dec_sb1(in_buf: &[u8], out_buf: &mut [u8], sym_count: usize, trellis: &mu
     ensures { λ r. ⌜ Decodes control «sym_count» (now («in_buf» .entry)) (now («out_buf» .entry)) (now («out_buf» .exit))
         (now (trellis .entry)) (now (trellis .exit)) r ⌝ }
 {
-    inner::decode(POWERS, CONTROL, 4, in_buf, out_buf, sym_count, trellis)
+    inner::decode(CONTROL, 4, in_buf, out_buf, sym_count, trellis)
 }
 
 // The same for steps of three speech symbols.
@@ -66,5 +47,5 @@ pub fn dec_speech(
     ensures { λ r. ⌜ Decodes speech «sym_count» (now («in_buf» .entry)) (now («out_buf» .entry)) (now («out_buf» .exit))
         (now (trellis .entry)) (now (trellis .exit)) r ⌝ }
 {
-    inner::decode(POWERS, SPEECH, 3, in_buf, out_buf, sym_count, trellis)
+    inner::decode(SPEECH, 3, in_buf, out_buf, sym_count, trellis)
 }

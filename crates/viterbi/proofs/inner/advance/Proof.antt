@@ -14,8 +14,8 @@ lessers-requires : tie.Need-lessers-requires
 lessers-requires c κs =
     let a = c .before .before .before in
     let p = c .before .first-ways in (
-      first-ways-small (a .args .old .m) (a .args .b) (p .result) (a .pre .1) (a .pre .2) (p .ensures),
-      second-ways-small (a .args .old .m) (a .args .b) (c .second-ways .result) (a .pre .1) (a .pre .2) (c .second-ways .ensures),
+      first-ways-small (a .args .old .m) (a .args .b) (p .result) (a .pre .0) (a .pre .1) (p .ensures),
+      second-ways-small (a .args .old .m) (a .args .b) (c .second-ways .result) (a .pre .0) (a .pre .1) (c .second-ways .ensures),
     )
 
 choices-requires : tie.Need-choices-requires
@@ -23,9 +23,8 @@ choices-requires c κs =
     let a = c .before .before .before .before in
     let p = c .before .before .first-ways in
     let q = c .before .second-ways in (
-      a .pre .0,
-      first-ways-small (a .args .old .m) (a .args .b) (p .result) (a .pre .1) (a .pre .2) (p .ensures),
-      second-ways-small (a .args .old .m) (a .args .b) (q .result) (a .pre .1) (a .pre .2) (q .ensures),
+      first-ways-small (a .args .old .m) (a .args .b) (p .result) (a .pre .0) (a .pre .1) (p .ensures),
+      second-ways-small (a .args .old .m) (a .args .b) (q .result) (a .pre .0) (a .pre .1) (q .ensures),
     )
 
 returns : tie.Need-returns

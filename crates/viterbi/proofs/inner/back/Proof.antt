@@ -28,14 +28,14 @@ slice-write-target c = search needs
 mul-s : tie.Need-mul-s Inv-loop μ-loop
 mul-s c = search needs
 
-mul-s-2 : tie.Need-mul-s-2 Inv-loop μ-loop
-mul-s-2 c = search needs
-
 slice-read-s : tie.Need-slice-read-s Inv-loop μ-loop
 slice-read-s c = search needs
 
 shr-s : tie.Need-shr-s Inv-loop μ-loop
 shr-s c = search needs
+
+mul-s-2 : tie.Need-mul-s-2 Inv-loop μ-loop
+mul-s-2 c = search needs
 
 add-s : tie.Need-add-s Inv-loop μ-loop
 add-s c = search needs
@@ -80,9 +80,9 @@ back-spec =
     cast-target
     slice-write-target
     mul-s
-    mul-s-2
     slice-read-s
     shr-s
+    mul-s-2
     add-s
     mul-trellis
     slice-write-trellis

@@ -1,66 +1,115 @@
--- Digit s says whether the second entry s is smaller.
-use Prim.Native.Nat.{ℕ, _-_, _≤_}
-use mathlib.Core.Logic.{⊎-elim}
-use lib.IntN.{pos}
-use lib.ListN.{getD}
-use Rattle.viterbi.specs.Scores.{oldest}
-use Rattle.viterbi.proofs.Sixteen.{MarkedTo, mark-one, mark-nought}
-use Rattle.viterbi.proofs.Ways.{marks-second, marks-first}
+-- The digits of the states from s on are in place.
+use Prim.Native.Nat.{ℕ, _+_, _%_, _-_, _≤_, _<_}
+use mathlib.Core.Path.{_≡_, refl, ap₂, _∙_}
+use mathlib.Core.List.{List}
 use native.Mathlib.Omega.{arith}
 use borrow.Author.Needs.{needs}
+use lib.IntN.{ℤ, pos}
+use lib.ListN.{getD}
+use Rattle.viterbi.specs.Scores.{oldest}
+use Rattle.viterbi.proofs.Sixteen.{number, number-pair, number-room, number-marks}
+use Rattle.viterbi.proofs.Ways.{oldest-lt, small-reads}
 use Rattle.viterbi.proofs.inner.choices.Statement.{statement}
 use Rattle.viterbi.proofs.inner.choices.Tie as tie
 
+-- the choice at state j
+abbrev choice : List ℤ → List ℤ → ℕ → ℕ
+choice p q j = oldest (getD p j (pos 0)) (getD q j (pos 0))
+
+bit : (p q : List ℤ) (j : ℕ) → choice p q j < 2
+bit p q j = oldest-lt (getD p j (pos 0)) (getD q j (pos 0))
+
 abbrev Inv-loop : tie.InvT-loop
-Inv-loop powers p q taken₀ s₀ taken s = (s ≤ 16) × MarkedTo (λ j. oldest (getD p j (pos 0)) (getD q j (pos 0))) s taken
+Inv-loop p q taken₀ s₀ taken s = (s ≤ 16) × (s % 2 ≡ 0) × (taken ≡ number (choice p q) s (16 - s))
 
 abbrev μ-loop : tie.MeasureT-loop
-μ-loop powers p q taken₀ s₀ taken s = 16 - s
+μ-loop p q taken₀ s₀ taken s = s
 
 loop-holds : tie.Need-loop-holds Inv-loop μ-loop
-loop-holds c = (omega arith, (omega arith, λ j h. absurd (omega arith)))
+loop-holds c = (omega arith, refl, refl)
 
-mul-if1 : tie.Need-mul-if1 Inv-loop μ-loop
-mul-if1 c = search needs
-
-array-copy-out-if1 : tie.Need-array-copy-out-if1 Inv-loop μ-loop
-array-copy-out-if1 c = search needs
-
-mul-if1-2 : tie.Need-mul-if1-2 Inv-loop μ-loop
-mul-if1-2 c = search needs
-
-array-copy-out-if1-2 : tie.Need-array-copy-out-if1-2 Inv-loop μ-loop
-array-copy-out-if1-2 c = search needs
+sub-s : tie.Need-sub-s Inv-loop μ-loop
+sub-s c = search needs
 
 mul-taken : tie.Need-mul-taken Inv-loop μ-loop
-mul-taken c = search needs
+mul-taken c =
+    let a = c .before .before .args in
+    let l = c .before .loop in
+    let h = number-room (choice (a .t1) (a .t2)) (bit (a .t1) (a .t2)) (l .s) (l .taken) (omega arith) (omega arith) (l .inv .2) in
+    record { fits = omega (arith, h) }
 
-array-read-taken : tie.Need-array-read-taken Inv-loop μ-loop
-array-read-taken c = search needs
+mul-chosen : tie.Need-mul-chosen Inv-loop μ-loop
+mul-chosen c = search needs
 
-add-s : tie.Need-add-s Inv-loop μ-loop
-add-s c = search needs
+array-copy-out-chosen : tie.Need-array-copy-out-chosen Inv-loop μ-loop
+array-copy-out-chosen c = search needs
+
+mul-chosen-2 : tie.Need-mul-chosen-2 Inv-loop μ-loop
+mul-chosen-2 c = search needs
+
+array-copy-out-chosen-2 : tie.Need-array-copy-out-chosen-2 Inv-loop μ-loop
+array-copy-out-chosen-2 c = search needs
+
+chosen-requires : tie.Need-chosen-requires Inv-loop μ-loop
+chosen-requires c κs = search needs
+
+add-chosen : tie.Need-add-chosen Inv-loop μ-loop
+add-chosen c = search needs
+
+mul-chosen-3 : tie.Need-mul-chosen-3 Inv-loop μ-loop
+mul-chosen-3 c = search needs
+
+array-copy-out-chosen-3 : tie.Need-array-copy-out-chosen-3 Inv-loop μ-loop
+array-copy-out-chosen-3 c = search needs
+
+add-chosen-2 : tie.Need-add-chosen-2 Inv-loop μ-loop
+add-chosen-2 c = search needs
+
+mul-chosen-4 : tie.Need-mul-chosen-4 Inv-loop μ-loop
+mul-chosen-4 c = search needs
+
+array-copy-out-chosen-4 : tie.Need-array-copy-out-chosen-4 Inv-loop μ-loop
+array-copy-out-chosen-4 c = search needs
+
+chosen-requires-2 : tie.Need-chosen-requires-2 Inv-loop μ-loop
+chosen-requires-2 c κs = search needs
+
+mul-taken-2 : tie.Need-mul-taken-2 Inv-loop μ-loop
+mul-taken-2 c = search needs
+
+add-taken : tie.Need-add-taken Inv-loop μ-loop
+add-taken c = search needs
+
+add-taken-2 : tie.Need-add-taken-2 Inv-loop μ-loop
+add-taken-2 c =
+    let a = c .before .before .before .before .before .before .before .before .args in
+    let l = c .before .before .before .before .before .before .before .loop in
+    let h = number-room (choice (a .t1) (a .t2)) (bit (a .t1) (a .t2)) (l .s) (l .taken) (omega arith) (omega arith) (l .inv .2) in
+    record { fits = omega (arith, h, c .before .before .before .chosen .ensures .1, c .chosen2 .ensures .1) }
 
 loop-less : tie.Need-loop-less Inv-loop μ-loop
 loop-less c = search needs
 
 loop-again : tie.Need-loop-again Inv-loop μ-loop
 loop-again c =
-    let a = c .before .before .before .before .before in
-    let l = c .before .before .before .before .loop in
-    let p = getD (a .args .t2) (l .s) (pos 0) in
-    let q = getD (a .args .t3) (l .s) (pos 0) in
-    let f : ℕ → ℕ = λ j. oldest (getD (a .args .t2) j (pos 0)) (getD (a .args .t3) j (pos 0)) in
-    let hp = a .pre .1 (l .s) (omega arith) in
-    let hq = a .pre .2 (l .s) (omega arith) in (
+    let a = c .before .before .before .before .before .before .before .before in
+    let l = c .before .before .before .before .before .before .before .loop in
+    let x = c .before .before .before .chosen in
+    let y = c .chosen2 in
+    let low : l .s - 2 < 16 = omega arith in
+    let high : l .s - 2 + 1 < 16 = omega arith in (
       omega arith,
-      ⊎-elim
-          (λ w. mark-one f (l .s) (l .taken) (getD (a .args .t1) (l .s) 0) (c .if1 .taken) (a .pre .0 (l .s) (omega arith)) (w .1) (l .inv .1) (marks-second p q hp hq (w .0 .taken)))
-          (λ w. mark-nought f (l .s) (l .taken) (c .if1 .taken) (w .1) (l .inv .1) (marks-first p q hp hq (w .0 .left))) (c .if1 .came),
+      omega arith,
+      number-pair (choice (a .args .t1) (a .args .t2)) (l .s) (l .taken) (x .result) (y .result) (omega arith) (omega arith) (l .inv .2)
+          (x .ensures .0 ∙ ap₂ oldest (small-reads (a .args .t1) (a .pre .0) (l .s - 2) low) (small-reads (a .args .t2) (a .pre .1) (l .s - 2) low))
+          (y .ensures .0 ∙ ap₂ oldest (small-reads (a .args .t1) (a .pre .0) (l .s - 2 + 1) high) (small-reads (a .args .t2) (a .pre .1) (l .s - 2 + 1) high)),
     )
 
 returns : tie.Need-returns Inv-loop μ-loop
-returns c = λ s h. c .before .loop .inv .1 .1 s (omega arith)
+returns c =
+    let a = c .before .before .args in
+    number-marks (choice (a .t1) (a .t2)) (bit (a .t1) (a .t2)) (c .before .loop .s) (c .before .loop .taken)
+    (omega arith) (c .before .loop .inv .2)
 
 pub choices-spec : {M : Type 1} → statement M
 choices-spec =
@@ -69,13 +118,23 @@ choices-spec =
     Inv-loop
     μ-loop
     loop-holds
-    mul-if1
-    array-copy-out-if1
-    mul-if1-2
-    array-copy-out-if1-2
+    sub-s
     mul-taken
-    array-read-taken
-    add-s
+    mul-chosen
+    array-copy-out-chosen
+    mul-chosen-2
+    array-copy-out-chosen-2
+    chosen-requires
+    add-chosen
+    mul-chosen-3
+    array-copy-out-chosen-3
+    add-chosen-2
+    mul-chosen-4
+    array-copy-out-chosen-4
+    chosen-requires-2
+    mul-taken-2
+    add-taken
+    add-taken-2
     loop-less
     loop-again
     returns)

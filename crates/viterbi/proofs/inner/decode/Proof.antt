@@ -21,7 +21,7 @@ run-requires c κs =
     let a = c .before .before .before .before .before .before .before in
     let r = c .before .before .before .refusal in
     let h = accepts-rate (a .args .n) (length (a .args .source .now)) (length (a .args .trellis .now)) (length (a .args .target .now)) (a .args .k) (r .result) (r .ensures) (omega arith) in
-    (a .pre .0, a .pre .1, h .0, h .1, h .2, h .3)
+    (a .pre, h .0, h .1, h .2, h .3)
 
 same-length : tie.Need-same-length
 same-length c = search needs

@@ -24,14 +24,11 @@ loop-holds c = (omega arith, refl, λ j h. absurd (omega arith))
 mul-r : tie.Need-mul-r Inv-loop μ-loop
 mul-r c = search needs
 
-mul-r-2 : tie.Need-mul-r-2 Inv-loop μ-loop
-mul-r-2 c = search needs
-
 array-copy-out-r : tie.Need-array-copy-out-r Inv-loop μ-loop
 array-copy-out-r c = search needs
 
-mul-r-3 : tie.Need-mul-r-3 Inv-loop μ-loop
-mul-r-3 c = search needs
+mul-r-2 : tie.Need-mul-r-2 Inv-loop μ-loop
+mul-r-2 c = search needs
 
 array-copy-out-r-2 : tie.Need-array-copy-out-r-2 Inv-loop μ-loop
 array-copy-out-r-2 c = search needs
@@ -41,8 +38,8 @@ add-r c =
     let a = c .before .before .before .before in
     first-way-fits (a .args .t1) (a .args .t2) (a .pre .0) (a .pre .1) (c .before .before .before .loop .s) (omega arith)
 
-mul-r-4 : tie.Need-mul-r-4 Inv-loop μ-loop
-mul-r-4 c = search needs
+mul-r-3 : tie.Need-mul-r-3 Inv-loop μ-loop
+mul-r-3 c = search needs
 
 array-set-from-r : tie.Need-array-set-from-r Inv-loop μ-loop
 array-set-from-r c = search needs
@@ -74,12 +71,11 @@ first-ways-spec =
     μ-loop
     loop-holds
     mul-r
-    mul-r-2
     array-copy-out-r
-    mul-r-3
+    mul-r-2
     array-copy-out-r-2
     add-r
-    mul-r-4
+    mul-r-3
     array-set-from-r
     add-s
     loop-less

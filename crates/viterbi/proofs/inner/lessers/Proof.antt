@@ -5,6 +5,7 @@ use mathlib.Core.Logic.{⊎-elim}
 use lib.IntN.{pos}
 use lib.ListN.{length, getD, length-set}
 use Rattle.viterbi.specs.Scores.{better}
+use Rattle.viterbi.proofs.Signed.{fits}
 use Rattle.viterbi.proofs.Sixteen.{filled-more}
 use Rattle.viterbi.proofs.Ways.{takes-second, takes-first}
 use native.Mathlib.Omega.{arith}
@@ -58,12 +59,12 @@ loop-again c =
     let l = c .before .before .before .before .loop in
     let p = getD (a .args .t1) (l .s) (pos 0) in
     let q = getD (a .args .t2) (l .s) (pos 0) in
-    let hp = a .pre .0 (l .s) (omega arith) in
-    let hq = a .pre .1 (l .s) (omega arith) in (
+    let fp = fits p 31000 (a .pre .0 (l .s) (omega arith)) (omega arith) in
+    let fq = fits q 31000 (a .pre .1 (l .s) (omega arith)) (omega arith) in (
       omega arith,
       length-set (l .r) (l .s) _ ∙ l .inv .1,
       filled-more (λ j. better (getD (a .args .t1) j (pos 0)) (getD (a .args .t2) j (pos 0))) (l .r) (l .s) _ (omega arith) (l .inv .2)
-          (⊎-elim (λ w. takes-second p q hp hq (c .if1 .z) (w .2) (w .0 .taken)) (λ w. takes-first p q hp hq (c .if1 .z) (w .1) (w .0 .left)) (c .if1 .came)),
+          (⊎-elim (λ w. takes-second p q fp fq (c .if1 .z) (w .2) (w .0 .taken)) (λ w. takes-first p q fp fq (c .if1 .z) (w .1) (w .0 .left)) (c .if1 .came)),
     )
 
 returns : tie.Need-returns Inv-loop μ-loop

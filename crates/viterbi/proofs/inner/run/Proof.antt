@@ -9,7 +9,7 @@ use Rattle.viterbi.proofs.inner.run.Tie as tie
 forward-requires : tie.Need-forward-requires
 forward-requires c κs =
     let a = c .before .before .before .before in
-    (a .pre .0, a .pre .1, a .pre .2, a .pre .3, a .pre .4)
+    (a .pre .0, a .pre .1, a .pre .2, a .pre .3)
 
 element-copy-out-z : tie.Need-element-copy-out-z
 element-copy-out-z c = search needs
@@ -28,13 +28,13 @@ returns c =
     let a = c .before .before .before .before .before .before .before .before .before .before .before .before .before .before .before .before in
     let f = c .before .before .before .before .before .before .before .before .before .before .before .forward in
     let b = c .before .before .before .before .before .back in
-    absurd (never (a .args .k) (a .args .expected) (a .pre .1) (a .args .source .now) (a .args .n) (a .pre .2) (a .pre .3) (f .result .m) (a .args .trellis .now)
-    (f .last .1 .1 .1 .1 .1 .0) (b .last .1 .0) (a .args .target .now) (b .last .1 .1 .0) (b .result) (f .ensures) (b .ensures) (c .if1 .taken))
+    absurd (never (a .args .k) (a .args .expected) (a .pre .0) (a .args .source .now) (a .args .n) (a .pre .1) (a .pre .2) (f .result .m) (a .args .trellis .now)
+    (f .last .1 .1 .1 .1 .0) (b .last .1 .0) (a .args .target .now) (b .last .1 .1 .0) (b .result) (f .ensures) (b .ensures) (c .if1 .taken))
 
 mul-unerased : tie.Need-mul-unerased
 mul-unerased c =
     let a = c .before .before .before .before .before .before .before .before .before .before .before .before .before .before .before .before in
-    omega (arith, symbols-le (a .args .k) (a .args .n) (a .pre .1 .most) (a .pre .2))
+    omega (arith, symbols-le (a .args .k) (a .args .n) (a .pre .0 .most) (a .pre .1))
 
 unerased-requires : tie.Need-unerased-requires
 unerased-requires c κs = search needs
@@ -44,8 +44,8 @@ cost-requires c κs =
     let a = c .before .before .before .before .before .before .before .before .before .before .before .before .before .before .before .before .before in
     let f = c .before .before .before .before .before .before .before .before .before .before .before .before .forward in
     let b = c .before .before .before .before .before .before .back in
-    count-asks (a .args .k) (a .args .expected) (a .pre .1) (a .args .source .now) (a .args .n) (a .pre .2) (a .pre .3) (f .result .m) (a .args .trellis .now)
-    (f .last .1 .1 .1 .1 .1 .0) (b .last .1 .0) (a .args .target .now) (b .last .1 .1 .0) (b .result) (f .ensures) (b .ensures) (c .unerased .result) (c .unerased .ensures)
+    count-asks (a .args .k) (a .args .expected) (a .pre .0) (a .args .source .now) (a .args .n) (a .pre .1) (a .pre .2) (f .result .m) (a .args .trellis .now)
+    (f .last .1 .1 .1 .1 .0) (b .last .1 .0) (a .args .target .now) (b .last .1 .1 .0) (b .result) (f .ensures) (b .ensures) (c .unerased .result) (c .unerased .ensures)
 
 same-length-3 : tie.Need-same-length-3
 same-length-3 c = search needs
@@ -59,9 +59,9 @@ returns-2 c code tells =
     let f = c .before .before .before .before .before .before .before .before .before .before .before .before .before .forward in
     let b = c .before .before .before .before .before .before .before .back in
     let u = c .before .unerased in
-    ran (a .args .k) (a .args .expected) (a .pre .1) (a .args .source .now) (a .args .n) (a .pre .2) (a .pre .3) (f .result .m) (a .args .trellis .now)
-    (f .last .1 .1 .1 .1 .1 .0) (b .last .1 .0) (a .args .target .now) (b .last .1 .1 .0) (b .result) (f .ensures) (b .ensures) code tells
-    (a .pre .4) (a .pre .5) (u .result) (c .cost .result) (u .ensures) (c .cost .ensures)
+    ran (a .args .k) (a .args .expected) (a .pre .0) (a .args .source .now) (a .args .n) (a .pre .1) (a .pre .2) (f .result .m) (a .args .trellis .now)
+    (f .last .1 .1 .1 .1 .0) (b .last .1 .0) (a .args .target .now) (b .last .1 .1 .0) (b .result) (f .ensures) (b .ensures) code tells
+    (a .pre .3) (a .pre .4) (u .result) (c .cost .result) (u .ensures) (c .cost .ensures)
 
 pub run-spec : {M : Type 1} → statement M
 run-spec =

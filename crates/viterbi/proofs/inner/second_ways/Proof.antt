@@ -21,20 +21,17 @@ abbrev μ-loop : tie.MeasureT-loop
 loop-holds : tie.Need-loop-holds Inv-loop μ-loop
 loop-holds c = (omega arith, refl, λ j h. absurd (omega arith))
 
-mul-r : tie.Need-mul-r Inv-loop μ-loop
-mul-r c = search needs
-
 add-r : tie.Need-add-r Inv-loop μ-loop
 add-r c = search needs
 
-mul-r-2 : tie.Need-mul-r-2 Inv-loop μ-loop
-mul-r-2 c = search needs
+mul-r : tie.Need-mul-r Inv-loop μ-loop
+mul-r c = search needs
 
 array-copy-out-r : tie.Need-array-copy-out-r Inv-loop μ-loop
 array-copy-out-r c = search needs
 
-mul-r-3 : tie.Need-mul-r-3 Inv-loop μ-loop
-mul-r-3 c = search needs
+mul-r-2 : tie.Need-mul-r-2 Inv-loop μ-loop
+mul-r-2 c = search needs
 
 array-copy-out-r-2 : tie.Need-array-copy-out-r-2 Inv-loop μ-loop
 array-copy-out-r-2 c = search needs
@@ -44,8 +41,8 @@ sub-r c =
     let a = c .before .before .before .before in
     second-way-fits (a .args .t1) (a .args .t2) (a .pre .0) (a .pre .1) (c .before .before .before .loop .s) (omega arith)
 
-mul-r-4 : tie.Need-mul-r-4 Inv-loop μ-loop
-mul-r-4 c = search needs
+mul-r-3 : tie.Need-mul-r-3 Inv-loop μ-loop
+mul-r-3 c = search needs
 
 array-set-from-r : tie.Need-array-set-from-r Inv-loop μ-loop
 array-set-from-r c = search needs
@@ -76,14 +73,13 @@ second-ways-spec =
     Inv-loop
     μ-loop
     loop-holds
-    mul-r
     add-r
-    mul-r-2
+    mul-r
     array-copy-out-r
-    mul-r-3
+    mul-r-2
     array-copy-out-r-2
     sub-r
-    mul-r-4
+    mul-r-3
     array-set-from-r
     add-s
     loop-less
