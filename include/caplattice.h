@@ -18,7 +18,7 @@ enum caplattice_case {
     CAPLATTICE_CLEAN,   /* value: the 14 data bits */
     CAPLATTICE_MENDED,  /* the same; number: the place of the wrong bit, 1 to 30 from the left */
     CAPLATTICE_BEYOND,  /* the same, uncorrected */
-    CAPLATTICE_MATCHED, /* value: how many places matched */
+    CAPLATTICE_MATCHED, /* value: how many places matched; of 2^32 or more, the last 32 bits of the count */
     CAPLATTICE_DIFFERS,
     CAPLATTICE_REFUSED  /* number: the refusal; value: an encoder's delays, which stay, or 0 */
 };
