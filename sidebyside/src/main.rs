@@ -1,15 +1,17 @@
 // Old and new side by side: reads a recording, asks the original and ours about each record, and prints a line only where they
 // differ or a record is refused. `sidebyside [--page FILE] [RECORDING]`; without RECORDING it reads standard input.
-// Ends with 1 when a difference that is not intended was found, and with 2 when it could not run.
+// Ends with 1 when a difference that is not intended was found, and with 2 when it could not run to the end.
+mod feed;
 mod old;
 mod ours;
 mod page;
 
 use caplattice::Refusal;
+use feed::Feed;
 use std::collections::BTreeMap;
 use std::fmt;
 use std::fs::File;
-use std::io::{self, BufReader, IsTerminal, Read, Write};
+use std::io::{self, IsTerminal, Read, Write};
 use std::process::exit;
 use std::time::{Duration, Instant};
 
@@ -21,10 +23,12 @@ const SYMBOLS: [usize; KINDS + 1] = [0, 120, 168, 216, 432, 30, 432, 216];
 const ACCESS_FIELD: &str = "The access field";
 const SYNCHRONISATION: &str = "Control block received on the synchronisation burst";
 
-// How many lines the page keeps, and how often it is written anew.
-const KEPT_LINES: usize = 1000;
+// How many lines of a sort the page keeps, and how often it is written anew.
+const KEPT_LINES: usize = 500;
 const PAGE_EVERY: Duration = Duration::from_secs(30);
 const COUNT_EVERY: Duration = Duration::from_millis(500);
+// Goes back to the left of a terminal's line and empties it.
+const WIPE: &[u8] = b"\r\x1b[K";
 
 pub struct Record {
     pub kind: u8,
@@ -80,13 +84,19 @@ impl fmt::Display for Answer {
     }
 }
 
+// What both say of a record.
+pub struct Both {
+    pub old: String,
+    pub ours: String,
+}
+
 enum Finding {
     Equal,
-    Different(String),
-    Intended(&'static str, String),
+    Different(Both),
+    Intended(&'static str, Both),
     // Equal to the original's parts where it has no chain for such a record; and why it has none.
     Apart(&'static str),
-    Refused(String),
+    Refused(Both),
 }
 
 // The original's own chain against ours, in what it says: data and check.
@@ -108,15 +118,19 @@ fn told(chain: &Option<(Vec<u8>, Option<bool>)>) -> String {
 
 fn compared(r: &Record, ours: &Answer) -> Finding {
     let bits_only = r.symbols.iter().all(|&symbol| symbol < 2);
+    let both = |old: String| Both {
+        old,
+        ours: ours.to_string(),
+    };
     if matches!(ours, Answer::Refused(_)) {
         let chain = if r.kind == 7 { None } else { old::chain(r, false) };
-        return Finding::Refused(format!("old {}, ours {ours}", told(&chain)));
+        return Finding::Refused(both(told(&chain)));
     }
     // What the original's chain does not say at all is held against its parts.
     let parts = old::parts(r);
     if parts.as_ref() != Some(ours) {
         let parts = parts.map_or("panics".to_string(), |answer| answer.to_string());
-        return Finding::Different(format!("old (its parts) {parts}, ours {ours}"));
+        return Finding::Different(both(format!("(its parts) {parts}")));
     }
     if r.kind == 7 {
         return Finding::Apart("second half");
@@ -126,17 +140,51 @@ fn compared(r: &Record, ours: &Answer) -> Finding {
     }
     // The original takes every BSCH block to come from the synchronisation burst.
     let chain = old::chain(r, r.kind == 1);
-    let lines = || format!("old {}, ours {ours}", told(&chain));
     if chain.as_ref().is_some_and(|chain| agrees(chain, ours)) {
         return match ours {
-            Answer::Field { verdict: "beyond", .. } => Finding::Intended(ACCESS_FIELD, lines()),
+            Answer::Field { verdict: "beyond", .. } => Finding::Intended(ACCESS_FIELD, both(told(&chain))),
             _ => Finding::Equal,
         };
     }
     if r.kind == 1 && r.start != 3 && old::chain(r, false).is_some_and(|chain| agrees(&chain, ours)) {
-        return Finding::Intended(SYNCHRONISATION, lines());
+        return Finding::Intended(SYNCHRONISATION, both(told(&chain)));
     }
-    Finding::Different(lines())
+    Finding::Different(both(told(&chain)))
+}
+
+// Which record a line is about: its number from 1, its kind, and the place of its first byte in the recording.
+#[derive(Clone, Copy)]
+pub struct Head {
+    pub number: u64,
+    pub kind: u8,
+    pub place: u64,
+}
+
+pub enum Said {
+    Both(Both),
+    // Why reading ends with this record.
+    Ends(String),
+}
+
+pub struct Line {
+    pub head: Head,
+    pub finding: &'static str,
+    pub name: Option<&'static str>,
+    pub said: Said,
+}
+
+impl fmt::Display for Line {
+    fn fmt(&self, f: &mut fmt::Formatter<'_>) -> fmt::Result {
+        let Head { number, kind, place } = self.head;
+        write!(f, "{number} {kind:02x} at {place} {}", self.finding)?;
+        if let Some(name) = self.name {
+            write!(f, " ({name})")?;
+        }
+        match &self.said {
+            Said::Both(both) => write!(f, ": old {}, ours {}", both.old, both.ours),
+            Said::Ends(why) => write!(f, ": {why}reading ends here"),
+        }
+    }
 }
 
 #[derive(Default)]
@@ -150,15 +198,24 @@ pub struct Kind {
 }
 
 #[derive(Default)]
+pub struct Kept {
+    pub lines: Vec<Line>,
+    pub more: u64,
+}
+
+#[derive(Default)]
 pub struct Tally {
     pub kinds: [Kind; KINDS + 1],
     pub reasons: BTreeMap<String, u64>,
-    pub lines: Vec<String>,
-    pub unkept: u64,
+    // The differences that are not intended have their own, so that no number of other lines pushes them out.
+    pub different: Kept,
+    pub others: Kept,
+    // Whether the running count stands on a terminal where the next line would run into it.
+    count_in_the_way: bool,
 }
 
 impl Tally {
-    fn sum(&self, of: impl Fn(&Kind) -> u64) -> u64 {
+    pub fn sum(&self, of: impl Fn(&Kind) -> u64) -> u64 {
         self.kinds.iter().map(of).sum()
     }
 
@@ -166,47 +223,74 @@ impl Tally {
         format!("{} records, {} different", self.sum(|k| k.records), self.sum(|k| k.different))
     }
 
-    fn print(&mut self, line: String) -> io::Result<()> {
+    fn print(&mut self, line: Line) -> io::Result<()> {
+        if self.count_in_the_way {
+            let _ = io::stderr().write_all(WIPE);
+            self.count_in_the_way = false;
+        }
         let mut out = io::stdout().lock();
         writeln!(out, "{line}")?;
         out.flush()?;
-        if self.lines.len() < KEPT_LINES {
-            self.lines.push(line);
+        let kept = if line.finding == "different" {
+            &mut self.different
         } else {
-            self.unkept += 1;
+            &mut self.others
+        };
+        if kept.lines.len() < KEPT_LINES {
+            kept.lines.push(line);
+        } else {
+            kept.more += 1;
         }
         Ok(())
+    }
+
+    fn ends(&mut self, head: Head, finding: &'static str, why: String) -> io::Result<()> {
+        self.print(Line {
+            head,
+            finding,
+            name: None,
+            said: Said::Ends(why),
+        })
     }
 
     fn reason(&mut self, reason: String) {
         *self.reasons.entry(reason).or_default() += 1;
     }
 
-    fn take(&mut self, head: &str, kind: usize, finding: Finding) -> io::Result<()> {
-        let k = &mut self.kinds[kind];
+    fn take(&mut self, head: Head, finding: Finding) -> io::Result<()> {
+        let k = &mut self.kinds[head.kind as usize];
         k.records += 1;
-        match finding {
-            Finding::Equal => k.equal += 1,
-            Finding::Different(both) => {
-                k.different += 1;
-                return self.print(format!("{head} different: {both}"));
-            }
-            Finding::Intended(name, both) => {
-                k.intended += 1;
-                self.reason(format!("intended: {name}"));
-                return self.print(format!("{head} intended ({name}): {both}"));
+        let (finding, name, both) = match finding {
+            Finding::Equal => {
+                k.equal += 1;
+                return Ok(());
             }
             Finding::Apart(why) => {
                 k.apart += 1;
                 self.reason(format!("not comparable: {why}; equal to the old parts called in their order"));
+                return Ok(());
+            }
+            Finding::Different(both) => {
+                k.different += 1;
+                ("different", None, both)
+            }
+            Finding::Intended(name, both) => {
+                k.intended += 1;
+                self.reason(format!("intended: {name}"));
+                ("intended", Some(name), both)
             }
             Finding::Refused(both) => {
                 k.refused += 1;
                 self.reason("refused: a symbol that is no bit, for which the old chain has no input".to_string());
-                return self.print(format!("{head} refused: {both}"));
+                ("refused", None, both)
             }
-        }
-        Ok(())
+        };
+        self.print(Line {
+            head,
+            finding,
+            name,
+            said: Said::Both(both),
+        })
     }
 
     fn summary(&self) -> io::Result<()> {
@@ -233,69 +317,155 @@ impl Tally {
     }
 }
 
-// Fills the buffer as far as the input goes, and says how far.
-fn filled(input: &mut impl Read, buffer: &mut [u8]) -> io::Result<usize> {
-    let mut n = 0;
-    while n < buffer.len() {
-        match input.read(&mut buffer[n..]) {
-            Ok(0) => break,
-            Ok(more) => n += more,
-            Err(error) if error.kind() == io::ErrorKind::Interrupted => {}
-            Err(error) => return Err(error),
-        }
-    }
-    Ok(n)
+// What is shown while reading goes on: the count on a terminal, and the page.
+struct Watch {
+    tally: Tally,
+    plot: page::Plot,
+    page: Option<String>,
+    began: Instant,
+    live: bool,
+    counted: Instant,
+    paged: Instant,
+    // Whether standard error is a terminal, and whether standard output is one too.
+    terminal: bool,
+    shared: bool,
 }
 
-fn run(mut input: impl Read, page: Option<&str>) -> io::Result<bool> {
-    let mut tally = Tally::default();
-    let mut plot = page::Plot::new();
-    let terminal = io::stderr().is_terminal();
-    let (mut counted, mut paged) = (Instant::now(), Instant::now());
-    let (mut number, mut place) = (0u64, 0u64);
-    let mut kind = [0];
-    while filled(&mut input, &mut kind)? == 1 {
-        number += 1;
-        let kind = kind[0];
-        let head = format!("{number} {kind:02x} at {place}");
-        let Some(&symbols) = SYMBOLS.get(kind as usize).filter(|&&symbols| symbols > 0) else {
-            tally.print(format!("{head} unknown: reading ends here"))?;
-            break;
-        };
-        let mut body = vec![0; 4 + symbols];
-        let there = filled(&mut input, &mut body)?;
-        if there < body.len() {
-            tally.print(format!("{head} short: {there} of {} bytes; reading ends here", body.len()))?;
-            break;
-        }
-        place += 1 + body.len() as u64;
-        let record = Record {
-            kind,
-            start: u32::from_be_bytes([body[0], body[1], body[2], body[3]]),
-            symbols: body.split_off(4),
-        };
-        let ours = ours::answered(&record);
-        if let Answer::Block { disagreements, .. } = ours {
-            plot.add(number, disagreements);
-        }
-        tally.take(&head, kind as usize, compared(&record, &ours))?;
-        if terminal && counted.elapsed() > COUNT_EVERY {
-            eprint!("\r{}", tally.verdict());
-            counted = Instant::now();
-        }
-        if let Some(file) = page.filter(|_| paged.elapsed() > PAGE_EVERY) {
-            page::write(file, &tally, &plot)?;
-            paged = Instant::now();
+impl Watch {
+    fn new(page: Option<String>, live: bool) -> Watch {
+        let terminal = io::stderr().is_terminal();
+        Watch {
+            tally: Tally::default(),
+            plot: page::Plot::default(),
+            page,
+            began: Instant::now(),
+            live,
+            counted: Instant::now(),
+            paged: Instant::now(),
+            terminal,
+            shared: terminal && io::stdout().is_terminal(),
         }
     }
-    if terminal {
-        eprintln!("\r{}", tally.verdict());
+
+    // A terminal that has gone away is no reason to stop.
+    fn count(&mut self, end: &str) {
+        let mut err = io::stderr().lock();
+        let _ = err.write_all(WIPE);
+        let _ = write!(err, "{}{end}", self.tally.verdict());
+        let _ = err.flush();
+        self.tally.count_in_the_way = self.shared && end.is_empty();
+        self.counted = Instant::now();
     }
-    tally.summary()?;
-    if let Some(file) = page {
-        page::write(file, &tally, &plot)?;
+
+    fn write_page(&mut self, state: &page::State) -> bool {
+        self.paged = Instant::now();
+        let Some(file) = &self.page else { return true };
+        let written = page::write(file, &self.tally, &self.plot, state, self.live);
+        if let Err(error) = &written {
+            let mut err = io::stderr().lock();
+            if self.terminal {
+                let _ = err.write_all(WIPE);
+            }
+            let _ = writeln!(err, "sidebyside: the page {file} cannot be written: {error}");
+        }
+        written.is_ok()
     }
-    Ok(tally.sum(|k| k.different) == 0)
+
+    // A page that cannot be written now is tried again, and said again, half a minute later.
+    fn look(&mut self) {
+        if self.terminal && self.counted.elapsed() > COUNT_EVERY {
+            self.count("");
+        }
+        if self.page.is_some() && self.paged.elapsed() > PAGE_EVERY {
+            self.write_page(&page::State::Reading);
+        }
+    }
+
+    // Compares until the input ends or breaks off, and says how it ended.
+    fn read(&mut self, feed: &mut Feed) -> io::Result<page::State> {
+        let (mut number, mut place) = (0u64, 0u64);
+        let mut kind = [0];
+        loop {
+            match feed.fill(&mut kind, || self.look()) {
+                Ok(1) => {}
+                Ok(_) if feed::stopped() => return Ok(page::State::Stopped),
+                Ok(_) => return Ok(page::State::Ended),
+                Err(error) => return Ok(page::State::Unreadable(error.to_string())),
+            }
+            number += 1;
+            let kind = kind[0];
+            let head = Head { number, kind, place };
+            let Some(&symbols) = SYMBOLS.get(kind as usize).filter(|&&symbols| symbols > 0) else {
+                self.tally.ends(head, "unknown", String::new())?;
+                return Ok(page::State::Unknown(head));
+            };
+            let mut body = vec![0; 4 + symbols];
+            let there = match feed.fill(&mut body, || self.look()) {
+                Ok(there) => there,
+                Err(error) => return Ok(page::State::Unreadable(error.to_string())),
+            };
+            if there < body.len() && feed::stopped() {
+                return Ok(page::State::Stopped);
+            }
+            if there < body.len() {
+                self.tally.ends(head, "short", format!("{there} of {} bytes; ", body.len()))?;
+                return Ok(page::State::Short(head));
+            }
+            place += 1 + body.len() as u64;
+            let record = Record {
+                kind,
+                start: u32::from_be_bytes([body[0], body[1], body[2], body[3]]),
+                symbols: body.split_off(4),
+            };
+            let ours = ours::answered(&record);
+            let finding = compared(&record, &ours);
+            self.plot.add(
+                number,
+                match ours {
+                    Answer::Block { disagreements, .. } => Some(disagreements),
+                    _ => None,
+                },
+                matches!(finding, Finding::Different(_)),
+                self.began,
+            );
+            self.tally.take(head, finding)?;
+            self.look();
+        }
+    }
+
+    // The exit status.
+    fn run(&mut self, input: Box<dyn Read + Send>) -> i32 {
+        // A page that cannot be written at all is better known now than after a morning.
+        if !self.write_page(&page::State::Reading) {
+            return 2;
+        }
+        let mut status = 0;
+        let mut said = self.read(&mut Feed::new(input));
+        if self.terminal {
+            self.count("\n");
+        }
+        if let Ok(state) = &said {
+            if let page::State::Unreadable(error) = state {
+                let _ = writeln!(io::stderr(), "sidebyside: the recording cannot be read further: {error}");
+                status = 2;
+            }
+            if let Err(error) = self.tally.summary() {
+                said = Err(error);
+            }
+        }
+        let state = said.unwrap_or_else(|error| {
+            let _ = writeln!(io::stderr(), "sidebyside: standard output cannot be written: {error}");
+            status = 2;
+            page::State::Unwritten(error.to_string())
+        });
+        if !self.write_page(&state) {
+            status = 2;
+        }
+        if status == 0 && self.tally.sum(|k| k.different) > 0 {
+            status = 1;
+        }
+        status
+    }
 }
 
 fn usage() -> ! {
@@ -315,21 +485,17 @@ fn main() {
             _ => recording = Some(word),
         }
     }
-    let input: Box<dyn Read> = match &recording {
-        None => Box::new(io::stdin().lock()),
+    let live = recording.is_none();
+    let input: Box<dyn Read + Send> = match &recording {
+        None => Box::new(io::stdin()),
         Some(file) => match File::open(file) {
-            Ok(opened) => Box::new(BufReader::new(opened)),
+            Ok(opened) => Box::new(opened),
             Err(error) => {
                 eprintln!("sidebyside: {file}: {error}");
                 exit(2)
             }
         },
     };
-    match run(input, page.as_deref()) {
-        Ok(equal) => exit(if equal { 0 } else { 1 }),
-        Err(error) => {
-            eprintln!("sidebyside: stopped: {error}");
-            exit(2)
-        }
-    }
+    feed::stop_when_interrupted();
+    exit(Watch::new(page, live).run(input))
 }
