@@ -8,14 +8,12 @@ ghost use Rattle.answers.specs.Chains.{controlAnswer, slotAnswer, halfAn
 ghost use Rattle.answers.specs.Answering.{startOf, ofReceived, ofJudged, chainOf, answerOf};
 ghost use Rattle.errorcontrol_aach.specs.Access.{decoded};
 use base::Counts;
+use base::KIND;
 use base::Received;
+use base::SHORT;
 use records::START_BYTES;
 use rm3014::Judged;
 use rm3014::Verdict;
-
-const SHORT: u8 = 2;
-
-const KIND: u8 = 8;
 
 // The kind of result of a record: whether its check agreed, with what the chain counted; for AACH
 // the verdict; or the number of the refusal.

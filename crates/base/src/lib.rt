@@ -1,5 +1,28 @@
 // What every crate of the house shares: refusal numbers and the answer that carries one, bits, symbols,
 // and the lists that a loop over places leaves behind. The definitions stand in specs/, their laws in proofs/.
+pub mod inner;
+
+// The refusal numbers of document 01: a count over its limit, a source or a target that is too short, an entry that is no bit,
+// a shuffle that is no permutation, a word or a field that is too large, a kind or a mode that is not known, a path that does
+// not begin in state 0.
+pub const LIMIT: u8 = 1;
+
+pub const SHORT: u8 = 2;
+
+pub const ROOM: u8 = 3;
+
+pub const BIT: u8 = 4;
+
+pub const SHUFFLE: u8 = 5;
+
+pub const WORD: u8 = 6;
+
+pub const FIELD: u8 = 7;
+
+pub const KIND: u8 = 8;
+
+pub const START: u8 = 9;
+
 // What an entry that has no value of its own answers.
 pub enum Outcome {
     Done,
@@ -17,5 +40,3 @@ pub enum Received {
     Bad(Counts),
     Refused(u8),
 }
-
-pub mod inner;

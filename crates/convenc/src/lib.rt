@@ -14,7 +14,12 @@ ghost use Rattle.convenc.specs.Puncturing.{needed, keptPlace, punctureRe
 ghost use Rattle.convenc.specs.Walk.{rows, Sound, Parameters, Lies, Stands, Period, Periods};
 ghost use Rattle.convenc.specs.Comparing.{compare, compared};
 ghost use Rattle.convenc.specs.Gathering.{counts, difference, unerased, differing};
+use base::BIT;
+use base::KIND;
+use base::LIMIT;
 use base::Outcome;
+use base::ROOM;
+use base::SHORT;
 
 pub mod inner;
 
@@ -50,16 +55,16 @@ fn encode_refusal(rate: usize, delayed: [u8; 4], input: &[u8], room: usize) -> u
         return 0;
     }
     if 4096 < n {
-        return 1;
+        return LIMIT;
     }
     if room < rate * n {
-        return 3;
+        return ROOM;
     }
     if !base::inner::bits_only(input, n) {
-        return 4;
+        return BIT;
     }
     if !base::inner::bits_only(&delayed, 4) {
-        return 4;
+        return BIT;
     }
     0
 }
@@ -613,16 +618,16 @@ fn puncture_refusal(mode: u8, n: usize, source: usize, room: usize) -> u8
     ensures { λ r. ⌜ r ≡ punctureRefusal mode n source room ⌝ }
 {
     if 6 < mode {
-        return 8;
+        return KIND;
     }
     if 4096 < n {
-        return 1;
+        return LIMIT;
     }
     if source < needed(mode, n) {
-        return 2;
+        return SHORT;
     }
     if room < n {
-        return 3;
+        return ROOM;
     }
     0
 }
@@ -631,16 +636,16 @@ fn depuncture_refusal(mode: u8, n: usize, source: usize, room: usize) -> u8
     ensures { λ r. ⌜ r ≡ depunctureRefusal mode n source room ⌝ }
 {
     if 6 < mode {
-        return 8;
+        return KIND;
     }
     if 4096 < n {
-        return 1;
+        return LIMIT;
     }
     if source < n {
-        return 2;
+        return SHORT;
     }
     if room < needed(mode, n) {
-        return 3;
+        return ROOM;
     }
     0
 }

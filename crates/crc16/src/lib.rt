@@ -5,6 +5,7 @@ ghost use mathlib.Core.Path.{_≡_};
 ghost use Prim.Native.Nat.{_*_, _/_, _≤_, _<_};
 ghost use lib.ListN.{length, take};
 ghost use Rattle.crc16.specs.Crc.{step, register, bitOf, bitsOf, bytesAnswer};
+use base::SHORT;
 
 // The generator without its top term.
 pub const GEN_POLY: u16 = 0x1021;
@@ -72,7 +73,7 @@ pub fn crc16_itut_bytes(crc: u16, input: &[u8], number_bits: usize) -> Register
     // Eight times the length need not fit, so the bytes that are needed are counted instead.
     let needed = number_bits / 8 + (number_bits % 8 + 7) / 8;
     if input.len() < needed {
-        return Register::Refused(2);
+        return Register::Refused(SHORT);
     }
     Register::Value(packed_bits(crc, input, number_bits))
 }

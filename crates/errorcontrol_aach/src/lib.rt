@@ -10,12 +10,9 @@ ghost use Rattle.base.specs.Bits.{bitsOnly};
 ghost use Rattle.base.specs.Digits.{digits, number};
 ghost use Rattle.base.specs.Places.{written};
 ghost use Rattle.errorcontrol_aach.specs.Access.{encodeRefusal, encoded, decodeRefusal, received, decoded};
-
-const SHORT: u8 = 2;
-
-const ROOM: u8 = 3;
-
-const BIT: u8 = 4;
+use base::BIT;
+use base::ROOM;
+use base::SHORT;
 
 // Sends 14 data bits as 30 air bits, scrambled from start.
 pub fn encode_aach(start: u32, data: &[u8], air: &mut [u8]) -> base::Outcome

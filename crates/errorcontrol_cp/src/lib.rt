@@ -20,17 +20,13 @@ ghost use Rattle.viterbi.specs.Decoding.{decoded, disagreements, cleared};
 ghost use Rattle.errorcontrol_cp.specs.Kinds.{isKind, dataBits, Numbers};
 ghost use Rattle.errorcontrol_cp.specs.Sending.{MODE, wordOf, sent, sendRefusal, Sends};
 ghost use Rattle.errorcontrol_cp.specs.Receiving.{receiveRefusal, Receives};
+use base::BIT;
 use base::Counts;
+use base::KIND;
 use base::Outcome;
+use base::ROOM;
 use base::Received;
-
-const SHORT: u8 = 2;
-
-const ROOM: u8 = 3;
-
-const BIT: u8 = 4;
-
-const KIND: u8 = 8;
+use base::SHORT;
 
 // A control kind's counts: data bits, word bits, air symbols, and the interleaver's a.
 struct Params {

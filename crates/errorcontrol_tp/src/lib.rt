@@ -15,9 +15,12 @@ ghost use Rattle.trellis.specs.Nearest.{encode};
 ghost use Rattle.convenc.specs.Generators.{outputs, speech};
 ghost use Rattle.convenc.specs.Puncturing.{punctured};
 ghost use Rattle.errorcontrol_tp.specs.Speech.{sendRefusal, receiveRefusal, onAir, slot, secondHalf, blockOf, motherOf, readBit, sameBits, codecBits, isGood, countsOf, supplied, Sends, Receives};
+use base::BIT;
 use base::Counts;
 use base::Outcome;
+use base::ROOM;
 use base::Received;
+use base::SHORT;
 use base::inner::copy;
 use viterbi::Decoded;
 
@@ -26,15 +29,15 @@ fn send_refusal(count: usize, codec: &[u8], air: usize) -> u8
     ensures { λ r. ⌜ r ≡ sendRefusal count (now (codec .entry)) air ⌝ }
 {
     if codec.len() < 274 {
-        return 2;
+        return SHORT;
     }
     if air < count {
-        return 3;
+        return ROOM;
     }
     if base::inner::bits_only(codec, 274) {
         return 0;
     }
-    4
+    BIT
 }
 
 // Which refusal receiving owes, 0 for none.
@@ -42,13 +45,13 @@ fn receive_refusal(count: usize, air: usize, codec: usize, trellis: usize) -> u8
     ensures { λ r. ⌜ r ≡ receiveRefusal count air codec trellis ⌝ }
 {
     if air < count {
-        return 2;
+        return SHORT;
     }
     if codec < 274 {
-        return 3;
+        return ROOM;
     }
     if trellis < 184 {
-        return 3;
+        return ROOM;
     }
     0
 }

@@ -10,14 +10,10 @@ ghost use Rattle.interleaver.specs.Divisors.{Greatest};
 ghost use Rattle.interleaver.specs.Walk.{onward, walk, Ready};
 ghost use Rattle.interleaver.specs.Lines.{MatrixFits, lineMoved};
 ghost use Rattle.interleaver.specs.Interleaving.{shared, blockRefusal, interleaved, deinterleaved, matrixRefusal, matrixInterleaved, matrixDeinterleaved};
-
-const LIMIT: u8 = 1;
-
-const SHORT: u8 = 2;
-
-const ROOM: u8 = 3;
-
-const SHUFFLE: u8 = 5;
+use base::LIMIT;
+use base::ROOM;
+use base::SHORT;
+use base::SHUFFLE;
 
 // The greatest number that divides both, by Euclid's step on the remainder.
 fn divisor(a: usize, b: usize) -> usize

@@ -7,10 +7,9 @@ ghost use Prim.Native.Nat.{_<_};
 ghost use lib.ListN.{getD};
 ghost use Rattle.rm3014.specs.Code.{table, codeWord, upwards, columns, syndrome, dataOf};
 ghost use Rattle.rm3014.specs.Verdict.{verdict, coded, reading, judged, inputRefusal, wordRefusal};
+use base::WORD;
 
 pub mod inner;
-
-const WORD: u8 = 6;
 
 // The parity part of the generator, EN 300 392-2, 8.2.3.2: a row for each data bit.
 pub const RM_30_14_GEN: [[u8; 16]; 14] = [

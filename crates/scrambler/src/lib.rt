@@ -8,6 +8,8 @@ ghost use Rattle.base.specs.Refusal.{outcome, unless};
 ghost use Rattle.base.specs.Places.{tabulate, written};
 ghost use Rattle.scrambler.specs.Scrambling.{nexts, output, startAnswer, scrambled, sendRefusal, descrambledSymbol, descrambled};
 ghost use Rattle.scrambler.specs.Fours.{Spreads, Taken, Begun};
+use base::BIT;
+use base::FIELD;
 
 // The start value of the synchronization channel, BSCH.
 pub const SCRAMB_INIT: u32 = 3;
@@ -167,7 +169,7 @@ pub fn tetra_scramb_bits(lfsr_init: u32, block: &mut [u8]) -> base::Outcome
         tetra_descramb_bits(lfsr_init, block);
         base::Outcome::Done
     } else {
-        base::Outcome::Refused(4)
+        base::Outcome::Refused(BIT)
     }
 }
 
@@ -176,13 +178,13 @@ pub fn tetra_scramb_get_init(mcc: u16, mnc: u16, colour: u8) -> Start
     ensures { λ r. ⌜ r ≡ startAnswer mcc mnc colour ⌝ }
 {
     if 1023 < mcc {
-        return Start::Refused(7);
+        return Start::Refused(FIELD);
     }
     if 16383 < mnc {
-        return Start::Refused(7);
+        return Start::Refused(FIELD);
     }
     if 63 < colour {
-        return Start::Refused(7);
+        return Start::Refused(FIELD);
     }
     if colour == 0 {
         return Start::Value(0);

@@ -9,6 +9,8 @@ ghost use Rattle.base.specs.Places.{written, tabulate};
 ghost use Rattle.base.specs.Refusal.{outcome, unless};
 ghost use Rattle.speech_crc.specs.Check.{dataBits, remainder, speechCheck, checkRefusal, total};
 use base::Outcome;
+use base::ROOM;
+use base::SHORT;
 
 // The remainder, the highest degree first: a register of seven coefficients takes the data in, the last bit first.
 fn divide(class2: &[u8]) -> [u8; 7]
@@ -88,10 +90,10 @@ pub fn speech_crc(class2: &[u8], check: &mut [u8]) -> Outcome
     ensures target { λ r. ⌜ now (check .exit) ≡ unless (checkRefusal (length (now (class2 .entry))) (length (now (check .entry)))) (written (speechCheck (now (class2 .entry))) (now (check .entry))) (now (check .entry)) ⌝ }
 {
     if class2.len() < 60 {
-        return Outcome::Refused(2);
+        return Outcome::Refused(SHORT);
     }
     if check.len() < 8 {
-        return Outcome::Refused(3);
+        return Outcome::Refused(ROOM);
     }
     put_check(class2, check);
     Outcome::Done

@@ -15,16 +15,14 @@ ghost use Rattle.streaming.specs.Steps.{Steps, LARGEST, going};
 ghost use Rattle.streaming.specs.Runner.{short, closing};
 ghost use Rattle.streaming.specs.Closing.{closingRefusal, Closes};
 use answers::answer_to;
+use base::LIMIT;
+use base::ROOM;
 use lines::LINE;
 use lines::inner::put_end;
 use lines::inner::put_record;
 use lines::inner::put_short;
 use lines::inner::put_unknown;
 use records::Item;
-
-const LIMIT: u8 = 1;
-
-const ROOM: u8 = 3;
 
 // How many bytes were taken and written, how many whole records have been read since the input
 // began, and whether the reading has stopped.

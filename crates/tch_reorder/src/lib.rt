@@ -10,11 +10,9 @@ ghost use Rattle.tch_reorder.specs.Order.{reorderRefusal, channelOf, cod
 
 mod classes;
 
+use base::ROOM;
+use base::SHORT;
 use classes::CLASS_POS;
-
-const SHORT: u8 = 2;
-
-const ROOM: u8 = 3;
 
 fn refusal(source: usize, target: usize) -> u8
     ensures { λ r. ⌜ r ≡ reorderRefusal source target ⌝ }

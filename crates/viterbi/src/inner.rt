@@ -11,15 +11,10 @@ ghost use Rattle.trellis.specs.Nearest.{total};
 ghost use Rattle.viterbi.specs.Decoding.{decodeRefusal, Decodes};
 ghost use Rattle.viterbi.specs.Scores.{Sixteen, Holds, Marks, Small, Trit, Trits, Stands, Table, Tells, Rows, classOf, Classes, branchOf, firstWay, secondWay, better, oldest, Turned, Forward, Back, down};
 use super::Decoded;
-
-// The refusals of document 01.
-const LIMIT: u8 = 1;
-
-const SHORT: u8 = 2;
-
-const ROOM: u8 = 3;
-
-const START: u8 = 9;
+use base::LIMIT;
+use base::ROOM;
+use base::SHORT;
+use base::START;
 
 // What the states other than 0 begin with: more than four steps can cost, and little enough for 864 steps in an i16.
 const HANDICAP: i16 = 4096;
