@@ -17,7 +17,7 @@ use Rattle.trellis.specs.Nearest.{encode}
 use Rattle.convenc.specs.Generators.{speech, outputs, held, delays, encodeRefusal, Encoded, InTurn}
 use Rattle.convenc.specs.Puncturing.{needed, punctureRefusal, depunctureRefusal}
 use Rattle.convenc.proofs.Delays.{Four, four-bits, four-after, held-after}
-use Rattle.convenc.proofs.Encoding.{encode-append}
+use Rattle.trellis.proofs.Encoding.{encode-append}
 use Rattle.convenc.proofs.Refusing.{accepts, refuses-none, moving-none}
 
 -- bits, few enough and with room for their outputs, are accepted

@@ -1,34 +1,23 @@
--- Laws of the encoder: what it puts out for a longer input, how much, at which place, and that it is bits.
+-- Laws of the encoder: its state after a longer input, what it puts out at which place, and how much a code's generators make.
 -- Assumes nothing.
-use mathlib.Core.Path.{_≡_, refl, sym, ap, _∙_}
-use mathlib.Core.List.{List, [], _∷_, _++_, append-assoc}
+use mathlib.Core.Path.{_≡_, refl, ap, _∙_}
+use mathlib.Core.List.{List, [], _∷_, _++_}
 use Prim.Native.Nat.{ℕ, zero, suc, _+_, _*_, _/_, _<_}
 use native.Mathlib.Nat.{mul-suc, mul-zero}
 use native.Mathlib.Omega.{arith}
-use lib.ListN.{length, take, getD, length-append, length-map, List·getD-append}
+use lib.ListN.{length, take, getD, length-map, List·getD-append}
 use lib.Seq.{getD-append-add}
 use Rattle.base.specs.Bits.{Bits}
-use Rattle.base.proofs.BitLaws.{bits-append}
 use Rattle.trellis.specs.Nearest.{encode, after}
+use Rattle.trellis.proofs.Encoding.{encode-length, encode-bits}
 use Rattle.convenc.specs.Generators.{tapped, outputs}
 
--- ---- two inputs in a row are one
-pub encode-append : (out : ℕ → List ℕ) (s : ℕ) (v w : List ℕ) → encode out s (v ++ w) ≡ encode out s v ++ encode out (after s v) w
-encode-append out s [] w = refl
-encode-append out s (b ∷ v) w =
-    ap (λ (l : List ℕ). out (16 * b + s) ++ l) (encode-append out (8 * b + s / 2) v w)
-    ∙ sym (append-assoc (out (16 * b + s)) (encode out (8 * b + s / 2) v) (encode out (after (8 * b + s / 2) v) w))
-
+-- ---- the state after two inputs in a row
 pub after-append : (s : ℕ) (v w : List ℕ) → after s (v ++ w) ≡ after (after s v) w
 after-append s [] w = refl
 after-append s (b ∷ v) w = after-append (8 * b + s / 2) v w
 
--- ---- how much, and at which place
-pub encode-length : (out : ℕ → List ℕ) (rate : ℕ) → ((x : ℕ) → length (out x) ≡ rate) → (s : ℕ) (w : List ℕ) → length (encode out s w) ≡ rate * length w
-encode-length out rate h s [] = sym (mul-zero rate)
-encode-length out rate h s (b ∷ w) =
-    omega (arith, length-append (out (16 * b + s)) (encode out (8 * b + s / 2) w), h (16 * b + s), encode-length out rate h (8 * b + s / 2) w, mul-suc rate (length w))
-
+-- ---- at which place
 -- output g of step t is output g of the window that ends in bit t
 pub encode-at : (out : ℕ → List ℕ) (rate : ℕ) → ((x : ℕ) → length (out x) ≡ rate) → (s : ℕ) (w : List ℕ) (t g : ℕ) → t < length w → g < rate
     → getD (encode out s w) (rate * t + g) 0 ≡ getD (out (16 * getD w t 0 + after s (take t w))) g 0
@@ -42,10 +31,6 @@ encode-at out rate h s (b ∷ w) (suc t) g k l =
     ap (λ (x : ℕ). getD (out (16 * b + s) ++ encode out (8 * b + s / 2) w) x 0) e
     ∙ getD-append-add (out (16 * b + s)) (encode out (8 * b + s / 2) w) (rate * t + g) 0
     ∙ encode-at out rate h (8 * b + s / 2) w t g (omega arith) l
-
-pub encode-bits : (out : ℕ → List ℕ) → ((x : ℕ) → Bits (out x)) → (s : ℕ) (w : List ℕ) → Bits (encode out s w)
-encode-bits out h s [] = tt
-encode-bits out h s (b ∷ w) = bits-append (out (16 * b + s)) (encode out (8 * b + s / 2) w) (h (16 * b + s)) (encode-bits out h (8 * b + s / 2) w)
 
 -- ---- the same, of a code's generators
 pub outputs-length : (code : List (List ℕ)) (x : ℕ) → length (outputs code x) ≡ length code

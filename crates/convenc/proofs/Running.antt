@@ -16,7 +16,8 @@ use Rattle.base.proofs.BitLaws.{bits-at, bits-only-bits, bits-only-yes}
 use Rattle.base.specs.Refusal.{accepted}
 use Rattle.trellis.specs.Nearest.{encode, after}
 use Rattle.convenc.specs.Generators.{outputs, held, delays, newest, encodeRefusal}
-use Rattle.convenc.proofs.Encoding.{encode-append, encoded-length, outputs-length}
+use Rattle.trellis.proofs.Encoding.{encode-append}
+use Rattle.convenc.proofs.Encoding.{encoded-length, outputs-length}
 use Rattle.convenc.proofs.Delays.{Four, four, four-bits, delays-none, delays-append, four-after, held-after, newest-front, newest-more}
 use Rattle.convenc.proofs.Refusing.{accepts}
 use Rattle.convenc.proofs.Taps.{taps, taps-outputs, proper}
