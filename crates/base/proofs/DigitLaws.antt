@@ -1,11 +1,11 @@
 -- Laws of numbers written as bits, the most significant first.
 -- Assumes nothing.
 use mathlib.Core.Path.{_≡_, refl, sym, ap, ap₂, _∙_}
-use mathlib.Core.List.{List, [], _∷_, _++_}
-use Prim.Native.Nat.{ℕ, zero, suc, _+_, _*_, _/_, _%_, _^_, _-_, _≤_, _<_}
+use mathlib.Core.List.{List, [], _∷_}
+use Prim.Native.Nat.{ℕ, zero, suc, _+_, _*_, _/_, _%_, _^_, _-_, _<_}
 use native.Mathlib.Nat.{pow-suc, div-div-eq-div-mul, mul-comm, mul-assoc, add-mul, add-assoc, div-add-mod'}
 use native.Mathlib.Omega.{arith}
-use lib.ListN.{length, getD, length-append}
+use lib.ListN.{length, getD}
 use Rattle.base.specs.Bits.{Bits}
 use Rattle.base.specs.Digits.{digits, numberFrom, number}
 

@@ -8,7 +8,7 @@ use native.Mathlib.Numerals.{add-one}
 use native.Mathlib.Omega.{arith}
 use lib.Dec.{ltb}
 use borrow.Author.Tests.{ltb-true, ltb-false}
-use lib.ListN.{length, take, drop, getD, set, length-append, length-drop, length-set, List·getD-append}
+use lib.ListN.{length, take, drop, getD, set, length-append, length-drop, List·getD-append}
 use lib.Seq.{length-take-le, getD-take, drop-cons, set-at, take-at, drop-at, drop-length, ext-getD, getD-append-add}
 use Rattle.base.specs.Places.{tabulate, written}
 

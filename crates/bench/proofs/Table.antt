@@ -1,7 +1,7 @@
 -- The bench values hold.
 -- Assumes nothing.
-use mathlib.Core.List.{List, [], _∷_}
-use mathlib.Core.Path.{_≡_, refl, ap, _∙_}
+use mathlib.Core.List.{[], _∷_}
+use mathlib.Core.Path.{_≡_, refl}
 use Prim.Native.Nat.{ℕ, zero, suc, _+_, _-_, _*_, _/_, _≤_}
 use lib.ListN.{getD}
 use native.Mathlib.Omega.{arith}
@@ -10,7 +10,7 @@ use Rattle.trellis.specs.Nearest.{candidates, nearest}
 use Rattle.crc16.specs.Crc.{step, register}
 use Rattle.scrambler.specs.Scrambling.{newBit, next, output, startValue}
 use Rattle.scrambler.proofs.Outputs.{output-zero}
-use Rattle.convenc.specs.Generators.{tapped, control}
+use Rattle.convenc.specs.Generators.{tapped}
 use Rattle.convenc.specs.Puncturing.{position, positionOf}
 use Rattle.rm3014.specs.Code.{table, parity, codeWord, columns, syndrome, placeOf}
 use Rattle.speech_crc.specs.Check.{divided, speechCheck}

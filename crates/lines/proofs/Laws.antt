@@ -1,7 +1,7 @@
 -- Laws of numbers as text.
 -- Assumes nothing.
 use mathlib.Core.Path.{_≡_, refl, sym, ap, ap₂, subst, _∙_}
-use mathlib.Core.Bool.{Bool, true, false, cond}
+use mathlib.Core.Bool.{Bool, true, false}
 use mathlib.Core.List.{List, [], _∷_, _++_}
 use Prim.Native.Nat.{ℕ, zero, suc, _+_, _-_, _^_, _/_, _%_, _≤_, _<_}
 use native.Mathlib.Omega.{arith}
@@ -11,7 +11,7 @@ use lib.Dec.{ltb}
 use lib.ListN.{length, length-append}
 use Rattle.rm3014.specs.declared.Verdict.{Verdict}
 use Rattle.answers.specs.declared.Answer.{Answer}
-use Rattle.lines.specs.Lines.{LINE, SAID, space, newline, counted, judged, heading, line, recordLine, unknownLine, shortLine, endLine, verdictText, answerText}
+use Rattle.lines.specs.Lines.{SAID, counted, judged, heading, line, verdictText, answerText}
 use Rattle.lines.specs.Placing.{Put}
 use Rattle.lines.proofs.Placing.{put-none, put-then}
 use Rattle.lines.specs.Text.{sign, hex, decimalWithin, decimal}

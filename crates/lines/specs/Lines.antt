@@ -2,7 +2,6 @@
 -- Assumes nothing.
 use mathlib.Core.List.{List, _++_}
 use Prim.Native.Nat.{ℕ}
-use Rattle.base.specs.declared.Counts.{Counts}
 use Rattle.rm3014.specs.declared.Verdict.{Verdict}
 use Rattle.rm3014.specs.declared.Verdict.the-variants.{Clean, Mended, Beyond}
 use Rattle.answers.specs.declared.Answer.{Answer}

@@ -8,7 +8,7 @@ use native.Mathlib.Omega.{arith}
 use borrow.Author.Tests.{ltb-true, ltb-false, leb-true, leb-false, eqb-true, eqb-false, lt-ltb, le-ltb, le-leb, lt-leb, eq-eqb, ne-eqb}
 use lib.Dec.{ltb, leb, eqb}
 use lib.ListN.{length, getD, List·getD-eq-default}
-use Rattle.records.specs.Kinds.{symbolCounts, symbolsOf, START-BYTES, bodyLength}
+use Rattle.records.specs.Kinds.{symbolCounts, symbolsOf, START-BYTES}
 use Rattle.records.specs.Recording.{pick, past, itemAt, stepAt, after}
 use Rattle.records.specs.declared.Step.{Step}
 use Rattle.records.specs.declared.Item.{Item}

@@ -12,7 +12,7 @@ use lib.Bits.{bitXor, xor-shr, xor-mod, xor-block, xor-shifted}
 use lib.Dec.{T, ltb, eqb, eqb→eq}
 use lib.Pow.{pow-lt, pow-pos, shr-shr, field, mod-mod-pow}
 use borrow.Author.Tests.{ltb-true, ltb-false, eqb-true, eqb-false}
-use Rattle.base.proofs.Table.{below, at}
+use Rattle.base.proofs.Table.{at}
 use Rattle.base.proofs.Xor.{xor-bit, xor-odd, xor-swap}
 use Rattle.scrambler.specs.Scrambling.{taps, tapSum, newBit, next, nexts, output}
 use Rattle.scrambler.proofs.Outputs.{new-bit-lt, next-top, nexts-lt, nexts-add, output-new, output-after}

@@ -5,7 +5,7 @@ ghost use mathlib.Core.Path.{_≡_};
 ghost use Prim.Native.Nat.{ℕ, _+_, _*_, _/_, _%_, _^_, _≤_, _<_};
 ghost use lib.ListN.{length, getD};
 ghost use Rattle.base.specs.Refusal.{outcome, unless};
-ghost use Rattle.base.specs.Places.{tabulate, written};
+ghost use Rattle.base.specs.Places.{tabulate};
 ghost use Rattle.scrambler.specs.Scrambling.{nexts, output, startAnswer, scrambled, sendRefusal, descrambledSymbol, descrambled};
 ghost use Rattle.scrambler.specs.Fours.{Spreads, Taken, Begun};
 use base::BIT;

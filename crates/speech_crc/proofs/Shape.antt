@@ -1,15 +1,15 @@
 -- The check is eight bits.
 -- Assumes nothing.
 use mathlib.Core.Path.{_≡_, _∙_, ap}
-use mathlib.Core.List.{List, [], _∷_, _++_}
-use Prim.Native.Nat.{ℕ, zero, suc, _+_, _-_, _%_, _<_}
+use mathlib.Core.List.{List, [], _∷_}
+use Prim.Native.Nat.{ℕ, zero, suc, _+_, _-_}
 use native.Mathlib.Omega.{arith}
 use lib.ListN.{length, getD, length-append}
 use Rattle.base.specs.Bits.{Bits}
 use Rattle.base.specs.Places.{tabulate}
 use Rattle.base.proofs.Lists.{tabulate-length}
 use Rattle.base.proofs.BitLaws.{bits-append, bits-at, bits-tabulate}
-use Rattle.speech_crc.specs.Check.{divisor, added, divided, dataBits, dividend, remainder, total, speechCheck}
+use Rattle.speech_crc.specs.Check.{divisor, added, divided, dataBits, dividend, remainder, speechCheck}
 use Rattle.speech_crc.proofs.Dividend.{dividend-bits}
 
 pub check-length : (src : List ℕ) → length (speechCheck src) ≡ 8

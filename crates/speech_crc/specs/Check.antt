@@ -1,7 +1,7 @@
 -- The eight check bits of speech class 2 (EN 300 395-2, 5.5.1): the remainder of X^7 times the data by X^7 + X^3 + 1, and a parity.
 -- A polynomial over two elements is the list of its coefficients, the highest degree first.
 -- Assumes nothing.
-use mathlib.Core.List.{List, [], _∷_, _++_, map}
+use mathlib.Core.List.{List, [], _∷_, _++_}
 use Prim.Native.Nat.{ℕ, zero, suc, _+_, _-_, _*_, _%_}
 use lib.Dec.{ltb}
 use lib.ListN.{getD, replicate}

@@ -5,9 +5,6 @@ use native.Mathlib.Omega.{arith}
 use borrow.Author.Needs.{needs}
 use Rattle.records.proofs.step_at.Statement.{statement}
 use Rattle.records.proofs.step_at.Tie as tie
-use Rattle.records.proofs.step_at.Reads as reads
-use Rattle.records.proofs.step_at.Lts as lts
-use Rattle.records.proofs.symbols.Reads as symbols-reads
 
 -- src/lib.rt:44:9
 returns : tie.Need-returns

@@ -1,10 +1,7 @@
 use Rattle.records.proofs.Laws.{symbols-none, symbols-table}
-use native.Mathlib.Omega.{arith}
 use borrow.Author.Needs.{needs}
 use Rattle.records.proofs.symbols.Statement.{statement}
 use Rattle.records.proofs.symbols.Tie as tie
-use Rattle.records.proofs.symbols.Reads as reads
-use Rattle.records.proofs.symbols.Lts as lts
 
 -- src/lib.rt:33:9
 returns : tie.Need-returns

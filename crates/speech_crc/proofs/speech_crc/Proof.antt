@@ -1,13 +1,8 @@
 -- Each answer by the tests that led to it.
-use mathlib.Core.Path.{_≡_, refl, _∙_}
 use borrow.Author.Tests.{lt-ltb, le-ltb}
-use native.Mathlib.Omega.{arith}
 use borrow.Author.Needs.{needs}
 use Rattle.speech_crc.proofs.speech_crc.Statement.{statement}
 use Rattle.speech_crc.proofs.speech_crc.Tie as tie
-use Rattle.speech_crc.proofs.speech_crc.Reads as reads
-use Rattle.speech_crc.proofs.speech_crc.Lts as lts
-use Rattle.speech_crc.proofs.put_check.Reads as put-check-reads
 
 -- src/lib.rt:87:9
 returns : tie.Need-returns

@@ -1,10 +1,7 @@
 -- A word, a space and a number, one after the other.
-use mathlib.Core.List.{[], _∷_, _++_}
 use native.Mathlib.Omega.{arith}
 use borrow.Author.Needs.{needs}
-use lib.ListN.{length, length-append}
-use Rattle.lines.specs.Text.{decimal}
-use Rattle.lines.specs.Lines.{space, counted}
+use Rattle.lines.specs.Lines.{counted}
 use Rattle.lines.proofs.Placing.{put-then}
 use Rattle.lines.proofs.Laws.{counted-length}
 use Rattle.lines.proofs.inner.put_counted.Statement.{statement}

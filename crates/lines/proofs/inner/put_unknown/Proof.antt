@@ -1,9 +1,7 @@
 -- A line whose word is `unknown`.
-use mathlib.Core.Path.{refl}
 use native.Mathlib.Omega.{arith}
 use borrow.Author.Needs.{needs}
 use Rattle.lines.specs.Text.{ascii}
-use Rattle.lines.specs.Lines.{line}
 use Rattle.lines.proofs.Laws.{decimal-most, heading-length, line-length}
 use Rattle.lines.proofs.inner.put_unknown.Statement.{statement}
 use Rattle.lines.proofs.inner.put_unknown.Tie as tie

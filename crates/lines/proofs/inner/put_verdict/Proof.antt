@@ -1,10 +1,6 @@
 -- The word of each verdict, its place and its data.
 use native.Mathlib.Omega.{arith}
 use borrow.Author.Needs.{needs}
-use mathlib.Core.Path.{_≡_}
-use mathlib.Core.List.{List}
-use Prim.Native.Nat.{ℕ, _+_, _≤_}
-use lib.ListN.{length}
 use Rattle.lines.specs.Text.{ascii}
 use Rattle.lines.proofs.Laws.{judged-most, verdict-put}
 use Rattle.lines.proofs.inner.put_verdict.Statement.{statement}
