@@ -70,4 +70,5 @@ def main():
         record.write(sys.stdout.buffer, answered(r))
 
 
-main()
+if __name__ == "__main__":
+    main()

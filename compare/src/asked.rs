@@ -302,3 +302,21 @@ pub fn answered(r: &Request) -> Reply {
         }
     }
 }
+
+// What the original answers to the part of a request that document 01 reads: without surplus entries, and with a symbol that is
+// no bit as one that stays apart.
+pub fn read(r: &Request) -> Reply {
+    match ENTRIES[r.entry as usize] {
+        "tetra_descramb_bits" => {
+            let bits: Vec<u8> = r.source.iter().map(|&s| if s < 2 { s } else { 0 }).collect();
+            let Some(g) = ask(&Request { source: bits, ..r.clone() }) else { return only(UNASKED) };
+            let target: Vec<u8> = r.source.iter().zip(g.put).map(|(&s, bit)| if s < 2 { bit } else { 0xff }).collect();
+            reply(r, g.answer, &target, &[])
+        }
+        name @ ("encode_cp" | "encode_aach" | "decode_aach" | "encode_tp" | "encode_tp_half" | "speech_crc") => {
+            let used = due::used(name, r.numbers, r.source.len()).min(r.source.len());
+            answered(&Request { source: r.source[..used].to_vec(), ..r.clone() })
+        }
+        _ => answered(r),
+    }
+}

@@ -1,5 +1,6 @@
 // `recordings SEED COUNT` writes a recording of that many records by chance, damaged or not, that ends whole, in an unknown
 // kind or in a cut body.
+#[allow(dead_code)]
 mod asked;
 #[allow(dead_code)]
 mod chance;

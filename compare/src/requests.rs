@@ -1,11 +1,12 @@
-// Writes requests on standard output: `requests list` a short fixed list, `requests all` every short input and the
-// boundaries, `requests chance SEED COUNT` that many of each entry by chance, most of them near a boundary.
+// Writes requests on standard output: `requests all` every short input and the boundaries, `requests chance SEED COUNT` that
+// many of each entry by chance, most of them near a boundary.
+#[allow(dead_code)]
 mod asked;
 mod chance;
 
 use chance::Chance;
 use record::{Request, ENTRIES};
-use std::io::{self, BufWriter};
+use std::io::{self, BufWriter, Write};
 
 const KINDS: [(u64, usize, usize, usize); 4] = [(1, 60, 80, 120), (2, 92, 112, 168), (3, 124, 144, 216), (4, 268, 288, 432)];
 const STARTS: [u64; 4] = [0, 3, 0xffff_ffff, 0x0040_0107];
@@ -325,6 +326,7 @@ impl Maker {
         self.all_comparing();
         self.all_decoding();
         self.all_chains();
+        self.all_limits();
     }
 
     fn all_registers(&mut self) {
@@ -640,6 +642,29 @@ impl Maker {
             }
         }
     }
+
+    // One over each limit, with little else, so that the number alone decides; and the largest multiplier.
+    fn all_limits(&mut self) {
+        for name in ["block_interleave", "block_deinterleave"] {
+            self.put(name, [4097, 1, 0], vec![7], 1, 0);
+            self.put(name, [7, 65536, 0], vec![7; 7], 7, 0);
+            let source = self.chance.bytes(7);
+            self.put(name, [7, 65535, 0], source, 7, 0);
+        }
+        for name in ["matrix_interleave", "matrix_deinterleave"] {
+            for (lines, columns) in [(1, 4097), (4097, 1), (17, 241)] {
+                self.put(name, [lines, columns, 0], vec![7], 1, 0);
+            }
+        }
+        for name in ["get_punctured_rate", "tetra_rcpc_depunct"] {
+            for mode in 0..=6 {
+                self.put(name, [mode, 4097, 0], vec![7], 1, 0);
+            }
+        }
+        for name in ["dec_sb1", "dec_speech"] {
+            self.put(name, [865, 0, 0], vec![0; 8], 2, 2);
+        }
+    }
 }
 
 // k(n), by the original's own depuncturing: the place of the last entry that it writes.
@@ -692,5 +717,6 @@ fn main() -> io::Result<()> {
     for request in &maker.made {
         record::write(&mut out, request, &record::Reply::default())?;
     }
-    Ok(())
+    // What is left in the buffer is written here, where a failure is still seen.
+    out.flush()
 }
