@@ -1,5 +1,5 @@
 //! Links the proved static library: from the folder that CAPLATTICE_LIB names, or from target/staticlib of the
-//! repository, where `rt` puts it. A missing library is made by `rt`; that proves it, and takes its time.
+//! repository. There `rust/library` sees that it is made from the sources as they are; making it proves it, and takes its time.
 use std::env;
 use std::path::{Path, PathBuf};
 use std::process::{exit, Command};
@@ -11,18 +11,12 @@ fn stop(reason: &str) -> ! {
     exit(1)
 }
 
-fn made_by_rt(repository: &Path) {
-    match Command::new("rt")
-        .args(["staticlib", "caplattice"])
-        .current_dir(repository)
-        .status()
-    {
+fn made_from_the_sources(repository: &Path) {
+    println!("cargo:rerun-if-changed={}", repository.join("crates").display());
+    println!("cargo:rerun-if-changed={}", repository.join("crates.txt").display());
+    match Command::new(repository.join("rust/library")).status() {
         Ok(status) if status.success() => {}
-        Ok(_) => stop("`rt staticlib caplattice` failed in the repository. Run it there to see why."),
-        Err(_) => stop(
-            "target/staticlib/libcaplattice.a is missing, and so is `rt`, which makes it. Put the Rattle kit's `rt` on the \
-             PATH, or set CAPLATTICE_LIB to a folder that holds libcaplattice.a.",
-        ),
+        _ => stop("the proved library could not be made. Run `rust/library` in the repository to see why."),
     }
 }
 
@@ -43,9 +37,7 @@ fn main() {
             let here = PathBuf::from(env::var_os("CARGO_MANIFEST_DIR").unwrap());
             let repository = here.join("../..");
             let folder = repository.join("target/staticlib");
-            if !folder.join(ARCHIVE).is_file() {
-                made_by_rt(&repository);
-            }
+            made_from_the_sources(&repository);
             folder
         }
     };

@@ -1,6 +1,5 @@
 // Old and new side by side: reads a recording, asks the original and ours about each record, and prints a line only where they
-// differ or a record is refused. `sidebyside [--page FILE] [RECORDING]`; without RECORDING it reads standard input.
-// Ends with 1 when a difference that is not intended was found, and with 2 when it could not run to the end.
+// differ or a record is refused. help.txt says how it is called and how it ends.
 mod feed;
 mod old;
 mod ours;
@@ -12,8 +11,9 @@ use std::collections::BTreeMap;
 use std::fmt;
 use std::fs::File;
 use std::io::{self, IsTerminal, Read, Write};
+use std::path::Path;
 use std::process::exit;
-use std::time::{Duration, Instant};
+use std::time::{Duration, Instant, SystemTime};
 
 pub const KINDS: usize = 7;
 pub const NAMES: [&str; KINDS + 1] = ["", "BSCH", "SCH/HU", "SCH/HD", "SCH/F", "AACH", "speech", "second half"];
@@ -84,10 +84,17 @@ impl fmt::Display for Answer {
     }
 }
 
+// What one of the two says of a record: as the line prints it, and for the page its data and what it says of them.
+pub struct Told {
+    pub line: String,
+    pub data: String,
+    pub says: String,
+}
+
 // What both say of a record.
 pub struct Both {
-    pub old: String,
-    pub ours: String,
+    pub old: Told,
+    pub ours: Told,
 }
 
 enum Finding {
@@ -96,7 +103,8 @@ enum Finding {
     Intended(&'static str, Both),
     // Equal to the original's parts where it has no chain for such a record; and why it has none.
     Apart(&'static str),
-    Refused(Both),
+    // The refusal that document 01 gives, by its number.
+    Refused(u8, Both),
 }
 
 // The original's own chain against ours, in what it says: data and check.
@@ -108,29 +116,109 @@ fn agrees(chain: &(Vec<u8>, Option<bool>), ours: &Answer) -> bool {
     }
 }
 
-fn told(chain: &Option<(Vec<u8>, Option<bool>)>) -> String {
-    match chain {
-        None => "panics".to_string(),
-        Some((data, None)) => format!("{:04x}", data.iter().fold(0, |all, &bit| all << 1 | u16::from(bit))),
-        Some((data, Some(good))) => format!("{} {}", check(*good), hex(data)),
+fn panics() -> Told {
+    Told {
+        line: "panics".to_string(),
+        data: String::new(),
+        says: "panics".to_string(),
     }
 }
 
-fn compared(r: &Record, ours: &Answer) -> Finding {
-    let bits_only = r.symbols.iter().all(|&symbol| symbol < 2);
-    let both = |old: String| Both {
-        old,
-        ours: ours.to_string(),
-    };
-    if matches!(ours, Answer::Refused(_)) {
-        let chain = if r.kind == 7 { None } else { old::chain(r, false) };
-        return Finding::Refused(both(told(&chain)));
+fn told(chain: &Option<(Vec<u8>, Option<bool>)>) -> Told {
+    match chain {
+        None => panics(),
+        Some((data, None)) => {
+            let data = format!("{:04x}", data.iter().fold(0, |all, &bit| all << 1 | u16::from(bit)));
+            Told {
+                line: data.clone(),
+                data,
+                says: "no verdict".to_string(),
+            }
+        }
+        Some((data, Some(good))) => Told {
+            line: format!("{} {}", check(*good), hex(data)),
+            data: hex(data),
+            says: check(*good).to_string(),
+        },
     }
+}
+
+impl Answer {
+    // The page shows no more bits than the other side gives.
+    fn told(&self, bits_of_the_other: usize) -> Told {
+        let (data, says) = match self {
+            Answer::Block {
+                good,
+                disagreements,
+                bits,
+            } => (
+                hex(&bits[..bits.len().min(bits_of_the_other)]),
+                format!("{}, disagreements: {disagreements}", check(*good)),
+            ),
+            Answer::Field {
+                verdict: "mended",
+                place,
+                data,
+            } => (format!("{data:04x}"), format!("mended, place {place}")),
+            Answer::Field { verdict, data, .. } => (format!("{data:04x}"), verdict.to_string()),
+            Answer::Refused(_) => (String::new(), self.to_string()),
+        };
+        Told {
+            line: self.to_string(),
+            data,
+            says,
+        }
+    }
+}
+
+// The refusal that document 01 gives for a record, or 0.
+fn due_to(r: &Record) -> u8 {
+    let start = u64::from(r.start);
+    match r.kind {
+        5 => due::due("decode_aach", [start, 0, 0], &r.symbols, 0, 0),
+        6 => due::due("decode_tp", [start, 0, 0], &r.symbols, 274, 184),
+        7 => due::due("decode_tp_half", [start, 0, 0], &r.symbols, 274, 184),
+        kind => due::due("decode_cp", [u64::from(kind), start, 0], &r.symbols, 288, 288),
+    }
+}
+
+// Ours against document 01 where one of the two refuses.
+fn refusal(r: &Record, ours: &Answer) -> Option<Finding> {
+    let due = due_to(r);
+    let given = match ours {
+        Answer::Refused(refusal) => refusal.number(),
+        _ => 0,
+    };
+    if due == 0 && given == 0 {
+        return None;
+    }
+    let chain = if r.kind == 7 { None } else { old::chain(r, false) };
+    let (old, mut ours) = (told(&chain), ours.told(usize::MAX));
+    if given == due {
+        return Some(Finding::Refused(due, Both { old, ours }));
+    }
+    let owed = match due {
+        0 => " (no refusal is due)".to_string(),
+        number => format!(" (refusal {number} {} is due)", due::name(number)),
+    };
+    ours.line += &owed;
+    ours.says += &owed;
+    Some(Finding::Different(Both { old, ours }))
+}
+
+fn compared(r: &Record, ours: &Answer) -> Finding {
+    if let Some(finding) = refusal(r, ours) {
+        return finding;
+    }
+    let bits_only = r.symbols.iter().all(|&symbol| symbol < 2);
     // What the original's chain does not say at all is held against its parts.
     let parts = old::parts(r);
     if parts.as_ref() != Some(ours) {
-        let parts = parts.map_or("panics".to_string(), |answer| answer.to_string());
-        return Finding::Different(both(format!("(its parts) {parts}")));
+        let mut old = parts.map_or_else(panics, |answer| answer.told(usize::MAX));
+        old.line = format!("(its parts) {}", old.line);
+        old.says += " (its parts)";
+        let ours = ours.told(usize::MAX);
+        return Finding::Different(Both { old, ours });
     }
     if r.kind == 7 {
         return Finding::Apart("second half");
@@ -140,16 +228,20 @@ fn compared(r: &Record, ours: &Answer) -> Finding {
     }
     // The original takes every BSCH block to come from the synchronisation burst.
     let chain = old::chain(r, r.kind == 1);
+    let both = || Both {
+        old: told(&chain),
+        ours: ours.told(chain.as_ref().map_or(usize::MAX, |chain| chain.0.len())),
+    };
     if chain.as_ref().is_some_and(|chain| agrees(chain, ours)) {
         return match ours {
-            Answer::Field { verdict: "beyond", .. } => Finding::Intended(ACCESS_FIELD, both(told(&chain))),
+            Answer::Field { verdict: "beyond", .. } => Finding::Intended(ACCESS_FIELD, both()),
             _ => Finding::Equal,
         };
     }
     if r.kind == 1 && r.start != 3 && old::chain(r, false).is_some_and(|chain| agrees(&chain, ours)) {
-        return Finding::Intended(SYNCHRONISATION, both(told(&chain)));
+        return Finding::Intended(SYNCHRONISATION, both());
     }
-    Finding::Different(both(told(&chain)))
+    Finding::Different(both())
 }
 
 // Which record a line is about: its number from 1, its kind, and the place of its first byte in the recording.
@@ -181,7 +273,7 @@ impl fmt::Display for Line {
             write!(f, " ({name})")?;
         }
         match &self.said {
-            Said::Both(both) => write!(f, ": old {}, ours {}", both.old, both.ours),
+            Said::Both(both) => write!(f, ": old {}, ours {}", both.old.line, both.ours.line),
             Said::Ends(why) => write!(f, ": {why}reading ends here"),
         }
     }
@@ -279,9 +371,9 @@ impl Tally {
                 self.reason(format!("intended: {name}"));
                 ("intended", Some(name), both)
             }
-            Finding::Refused(both) => {
+            Finding::Refused(number, both) => {
                 k.refused += 1;
-                self.reason("refused: a symbol that is no bit, for which the old chain has no input".to_string());
+                self.reason(format!("refused {number} {}: {}", due::name(number), due::reason(number)));
                 ("refused", None, both)
             }
         };
@@ -322,8 +414,8 @@ struct Watch {
     tally: Tally,
     plot: page::Plot,
     page: Option<String>,
+    source: page::Source,
     began: Instant,
-    live: bool,
     counted: Instant,
     paged: Instant,
     // Whether standard error is a terminal, and whether standard output is one too.
@@ -332,14 +424,17 @@ struct Watch {
 }
 
 impl Watch {
-    fn new(page: Option<String>, live: bool) -> Watch {
+    fn new(page: Option<String>, recording: Option<String>) -> Watch {
         let terminal = io::stderr().is_terminal();
         Watch {
             tally: Tally::default(),
             plot: page::Plot::default(),
             page,
+            source: page::Source {
+                recording,
+                began: SystemTime::now(),
+            },
             began: Instant::now(),
-            live,
             counted: Instant::now(),
             paged: Instant::now(),
             terminal,
@@ -360,7 +455,7 @@ impl Watch {
     fn write_page(&mut self, state: &page::State) -> bool {
         self.paged = Instant::now();
         let Some(file) = &self.page else { return true };
-        let written = page::write(file, &self.tally, &self.plot, state, self.live);
+        let written = page::write(file, &self.tally, &self.plot, state, &self.source);
         if let Err(error) = &written {
             let mut err = io::stderr().lock();
             if self.terminal {
@@ -468,34 +563,64 @@ impl Watch {
     }
 }
 
-fn usage() -> ! {
-    eprintln!("sidebyside [--page FILE] [RECORDING]");
+const HELP: &str = include_str!("help.txt");
+
+fn stop(reason: &str) -> ! {
+    let _ = writeln!(io::stderr(), "sidebyside: {reason}");
     exit(2)
+}
+
+fn usage() -> ! {
+    let first = HELP.lines().next().unwrap_or_default();
+    stop(&format!("called wrongly: {first}; --help says more"))
+}
+
+#[derive(Default)]
+struct Words {
+    page: Option<String>,
+    replace: bool,
+    recording: Option<String>,
+}
+
+fn words() -> Words {
+    let mut words = Words::default();
+    let mut given = std::env::args().skip(1);
+    while let Some(word) = given.next() {
+        match word.as_str() {
+            "--help" => {
+                let _ = io::stdout().write_all(HELP.as_bytes());
+                exit(0)
+            }
+            "--page" if words.page.is_none() => words.page = Some(given.next().unwrap_or_else(|| usage())),
+            "--replace" => words.replace = true,
+            _ if word.starts_with("--") || words.recording.is_some() => usage(),
+            _ => words.recording = Some(word),
+        }
+    }
+    if words.replace && words.page.is_none() || words.page.as_ref().is_some_and(|file| file.starts_with("--")) {
+        usage()
+    }
+    words
 }
 
 fn main() {
     // A panic of the original is an answer, and told as one.
     std::panic::set_hook(Box::new(|_| {}));
-    let (mut page, mut recording) = (None, None);
-    let mut words = std::env::args().skip(1);
-    while let Some(word) = words.next() {
-        match word.as_str() {
-            "--page" => page = Some(words.next().unwrap_or_else(|| usage())),
-            _ if word.starts_with("--") || recording.is_some() => usage(),
-            _ => recording = Some(word),
-        }
-    }
-    let live = recording.is_none();
-    let input: Box<dyn Read + Send> = match &recording {
+    let words = words();
+    let input: Box<dyn Read + Send> = match &words.recording {
         None => Box::new(io::stdin()),
         Some(file) => match File::open(file) {
             Ok(opened) => Box::new(opened),
-            Err(error) => {
-                eprintln!("sidebyside: {file}: {error}");
-                exit(2)
-            }
+            Err(error) => stop(&format!("{file}: {error}")),
         },
     };
+    if let Some(page) = &words.page {
+        // The path by which standard input can be asked what file it is.
+        let recording = words.recording.as_deref().unwrap_or("/dev/stdin");
+        if let Err(reason) = page::may_write(Path::new(page), Path::new(recording), words.replace) {
+            stop(&format!("the page {page} cannot be written: {reason}"));
+        }
+    }
     feed::stop_when_interrupted();
-    exit(Watch::new(page, live).run(input))
+    exit(Watch::new(words.page, words.recording).run(input))
 }
