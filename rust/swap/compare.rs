@@ -1,5 +1,5 @@
-// The original's errorcontrol over its own components, and a copy of it over ours, asked the same: `compare ROUNDS`.
-// Ends with 1 at the first difference.
+// The original's errorcontrol over its own components, and a copy of it over ours, asked the same: `compare ROUNDS`. Then the
+// original's errorcontrol and the crate's own, `caplattice::original::errorcontrol`. Ends with 1 at the first difference.
 extern crate original as tetra_core;
 extern crate original as tetra_saps;
 extern crate original as tracing;
@@ -12,6 +12,8 @@ mod swapped {
     include!(env!("CAPLATTICE_SWAPPED"));
 }
 
+use caplattice::errorcontrol::ControlKind;
+use caplattice::original::errorcontrol as ours;
 use original::lmac::components::errorcontrol as old;
 use original::tmv::enums::logical_chans::LogicalChannel;
 use original::tmv::TmvUnitdataReq;
@@ -74,6 +76,72 @@ fn indication(air: &[u8], block_type: PhyBlockType) -> TpUnitdataInd {
 
 fn heard((block, good): (Option<BitBuffer>, bool)) -> (Option<Vec<u8>>, bool) {
     (block.map(BitBuffer::into_bitvec), good)
+}
+
+// The crate's own chains take what the old ones take, also when it is one bit too short or some too long.
+fn own_chains(chance: &mut Chance, count: &mut usize) {
+    use LogicalChannel::*;
+    let start = chance.next() as u32;
+    let beyond = [0, 0, 0, 1, 9][chance.next() as usize % 5];
+    let short = usize::from(chance.next() % 20 == 0);
+    let length = |n: usize| n + beyond - short;
+    for (kind, channel) in [
+        (ControlKind::Bsch, Bsch),
+        (ControlKind::SchHu, SchHu),
+        (ControlKind::SchHd, SchHd),
+        (ControlKind::SchF, SchF),
+    ] {
+        let data = chance.bits(length(kind.data_bits()));
+        same(
+            "encode_cp",
+            count,
+            || old::encode_cp(request(channel, &data, start)).into_bitvec(),
+            || ours::encode_cp(kind, &data, start),
+        );
+        let air = chance.bits(length(kind.air_bits()));
+        for (block_type, code) in [
+            (PhyBlockType::SB1, None),
+            (PhyBlockType::Other, Some(start)),
+            (PhyBlockType::Other, None),
+        ] {
+            same(
+                "decode_cp",
+                count,
+                || heard(old::decode_cp(channel, indication(&air, block_type), code)),
+                || ours::decode_cp(kind, &air, block_type == PhyBlockType::SB1, code),
+            );
+        }
+    }
+    // The old sender fills a short speech block up, and ours refuses it.
+    let codec = chance.bits(274 + beyond);
+    for block in [1, 2] {
+        same(
+            "encode_tp",
+            count,
+            || old::encode_tp(request(TchS, &codec, start), block).into_bitvec(),
+            || ours::encode_tp(&codec, start, block),
+        );
+    }
+    let air = chance.bits(length(432));
+    same(
+        "decode_tp",
+        count,
+        || heard(old::decode_tp(TchS, BitBuffer::from_bitarr(&air), start)),
+        || ours::decode_tp(&air, start),
+    );
+    let (field, air) = (chance.bits(length(14)), chance.bits(length(30)));
+    same(
+        "encode_aach",
+        count,
+        || old::encode_aach(BitBuffer::from_bitarr(&field), start).into_bitvec(),
+        || ours::encode_aach(&field, start),
+    );
+    same(
+        "decode_aach",
+        count,
+        || old::decode_aach(BitBuffer::from_bitarr(&air), start).into_bitvec(),
+        || ours::decode_aach(&air, start),
+    );
 }
 
 fn main() {
@@ -141,4 +209,9 @@ fn main() {
         );
     }
     println!("{count} blocks: the original's errorcontrol answers the same over its own components and over ours");
+    count = 0;
+    for _ in 0..rounds {
+        own_chains(&mut chance, &mut count);
+    }
+    println!("{count} blocks: caplattice::original::errorcontrol answers the same as the original's");
 }

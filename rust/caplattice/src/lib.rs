@@ -1,7 +1,13 @@
 //! TETRA channel coding with proofs, for Rust.
 //!
-//! Every function here calls one entry of a static library that is proved equal to a definition written from
-//! EN 300 392-2 and EN 300 395-2. The modules and functions have the names of the components that they replace:
+//! Every function that codes, decodes or checks calls one entry of a static library that is proved equal to a definition
+//! written from EN 300 392-2 and EN 300 395-2. What stands around those calls is plain Rust and not proved: it hands slices
+//! over, takes answers apart, and makes and names encoders, kinds and refusals. In [`original`] four functions call no entry:
+//! [`original::crc16::get_nth_bit`], [`original::interleaver::block_interl_func`], [`original::rm3014::compute_col_syndromes`]
+//! and [`original::viterbi::num_states`]; nor do the tables of [`original::rm3014`]. The crate's tests hold the tables against
+//! the library.
+//!
+//! The modules and functions have the names of the components that they replace:
 //!
 //! | module | what |
 //! |---|---|
@@ -13,7 +19,7 @@
 //! | [`convenc`] | convolutional encoders and puncturing |
 //! | [`viterbi`] | decoders that give the nearest word |
 //! | [`errorcontrol`] | whole chains: control blocks, speech slots, access field |
-//! | [`original`] | the same with the replaced components' exact signatures, for a swap by `use` lines |
+//! | [`original`] | the same with the replaced components' signatures, for a swap by `use` lines; its page says where they differ |
 //!
 //! Bits are one per byte, the first bit first. A received symbol is 0, 1, or any other byte for "not received".
 //!

@@ -66,6 +66,35 @@ fn chains() {
     assert_eq!(errorcontrol::decode_aach(&errorcontrol::encode_aach(&field, 77), 77), field);
 }
 
+// The old receive chains read the first bits of a longer buffer, and its speech sender those of a longer block.
+#[test]
+fn surplus_as_the_old_code_takes_it() {
+    let data = vec![1; 60];
+    let mut air = errorcontrol::encode_cp(ControlKind::Bsch, &data, 3);
+    air.push(1);
+    assert_eq!(air.len(), 121);
+    assert_eq!(
+        errorcontrol::decode_cp(ControlKind::Bsch, &air, true, None),
+        (Some(data), true)
+    );
+    assert_eq!(errorcontrol::decode_cp(ControlKind::Bsch, &[], false, None), (None, false));
+    let codec = vec![1; 274];
+    let mut air = errorcontrol::encode_tp(&codec, 77, 1);
+    assert_eq!(errorcontrol::encode_tp(&[1; 275], 77, 1), air);
+    air.extend([0; 9]);
+    assert_eq!(errorcontrol::decode_tp(&air, 77), (Some(codec), true));
+}
+
+#[test]
+fn lengths_that_the_old_code_does_not_take() {
+    assert!(panic_of(|| drop(errorcontrol::encode_cp(ControlKind::Bsch, &[0; 61], 3))).contains("a block of 60 bits is needed"));
+    assert!(panic_of(|| drop(errorcontrol::decode_cp(ControlKind::Bsch, &[0; 119], true, None))).contains("at least 120 bits"));
+    assert!(panic_of(|| drop(errorcontrol::decode_cp(ControlKind::Bsch, &[2; 121], true, None))).contains("bits only"));
+    assert!(panic_of(|| drop(errorcontrol::decode_tp(&[0; 431], 77))).contains("at least 432 bits"));
+    assert!(panic_of(|| drop(errorcontrol::encode_tp(&[0; 273], 77, 1))).contains("at least 274 bits"));
+    assert!(panic_of(|| drop(errorcontrol::decode_aach(&[0; 31], 77))).contains("a block of 30 bits is needed"));
+}
+
 #[test]
 fn panics_print_the_refusal() {
     assert!(panic_of(|| interleaver::block_interleave(2, 1, &[0], &mut [0; 2])).starts_with("refusal 2 SHORT"));
@@ -74,5 +103,8 @@ fn panics_print_the_refusal() {
     assert!(panic_of(|| assert_eq!(crc16::crc16_itut_bytes(0, &[0], 9), 0)).starts_with("refusal 2 SHORT"));
     assert!(panic_of(|| drop(viterbi::TetraViterbiDecoder::new().decode(&[2; 4]))).starts_with("soft value 2"));
     assert!(panic_of(|| drop(errorcontrol::encode_aach(&[0; 15], 0))).contains("a block of 14 bits is needed"));
-    assert!(panic_of(|| drop(viterbi::ViterbiDecoder::new_with_polynomials(&[[true; 5]; 3]))).starts_with("only the control"));
+    let unknown = || {
+        let _ = viterbi::ViterbiDecoder::new_with_polynomials(&[[true; 5]; 3]);
+    };
+    assert!(panic_of(unknown).starts_with("only the control"));
 }

@@ -63,7 +63,9 @@ pub fn tetra_rcpc_depunct(pu: RcpcPunctMode, input: &[u8], len: usize, output: &
     given(proved::tetra_rcpc_depunct(pu, input, len, output))
 }
 
-/// How many places of a mother word and a depunctured one are equal, or that some place differs; 0xff is skipped.
+/// How many places of a mother word and a depunctured one are equal, or that some place differs; 0xff in `depunct` is skipped.
+///
+/// The count is mod 2^32, where the old one has all of `usize`: it comes through a field of 32 bits.
 #[allow(clippy::result_unit_err)]
 pub fn mother_memcmp(mother: &[u8], depunct: &[u8]) -> Result<usize, ()> {
     match proved::mother_memcmp(mother, depunct) {

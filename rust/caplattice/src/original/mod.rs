@@ -1,5 +1,5 @@
-//! The same functions with the exact signatures of the components that they replace, so that a swap is a change of
-//! `use` lines. Where those assert, these panic; where the library refuses what they took, these panic with the refusal
+//! The same functions with the signatures of the components that they replace, so that a swap is a change of `use` lines.
+//! Where those assert, these panic; where the library refuses what they took, these panic with the refusal
 //! (docs/DIFFERENCES.md lists each such input).
 //!
 //! ```text
@@ -7,8 +7,16 @@
 //! use caplattice::original::convenc::{self, ConvEncState};       // after
 //! ```
 //!
-//! The bit buffer stays its owner's: what took or gave one takes or gives the bits, one per byte. Over
-//! [`scrambler::tetra_scramb_bits`] a caller writes a few lines that lift the bits out of the buffer and put them back.
+//! The signatures of [`convenc`], [`crc16`], [`interleaver`], [`rm3014`], [`tch_reorder`] and [`viterbi`] are the old ones. Two
+//! modules had types in theirs that stay their owner's, and differ:
+//!
+//! - [`scrambler::tetra_scramb_bits`] takes the bits, one per byte, where the old one took `&mut BitBuffer`. A caller writes a
+//!   few lines that lift the bits out of the buffer and put them back (rust/swap/scrambler.rs has them).
+//! - [`errorcontrol`] takes and gives bits, one per byte, in place of `BitBuffer`. A [`crate::errorcontrol::ControlKind`] stands
+//!   for the `LogicalChannel`, `sb1` for `PhyBlockType::SB1`, and what `TmvUnitdataReq` and `TpUnitdataInd` carried are
+//!   parameters. `decode_tp` has no channel parameter: there is one channel.
+//!
+//! Whoever keeps the old `errorcontrol.rs` needs only the first.
 pub mod convenc;
 pub mod crc16;
 pub mod errorcontrol;
