@@ -303,8 +303,8 @@ pub fn answered(r: &Request) -> Reply {
     }
 }
 
-// What the original answers to the part of a request that document 01 reads: without surplus entries, and with a symbol that is
-// no bit as one that stays apart.
+// What the original answers to the part of a request that document 01 reads. Surplus entries are left out; the descrambler's symbols
+// that are no bits go in as 0 and come out as 0xff.
 pub fn read(r: &Request) -> Reply {
     match ENTRIES[r.entry as usize] {
         "tetra_descramb_bits" => {

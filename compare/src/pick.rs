@@ -73,6 +73,10 @@ fn gathered(files: &[String]) -> io::Result<BTreeMap<u8, BTreeMap<Way, Vec<Answe
         if verdict.starts_with(DIFFERENT) {
             fail(format!("the original and the independent program do not agree: {}", record::show_request(&request)));
         }
+        let name = ENTRIES[request.entry as usize];
+        if independent.case() == REFUSED && !due::possible(name).contains(&independent.number()) {
+            fail(format!("due::possible does not name refusal {} of {name}", independent.number()));
+        }
         let way = way(verdict, &request, &independent);
         ways.entry(request.entry).or_default().entry(way).or_default().push((request, independent));
     }
