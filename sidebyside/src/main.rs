@@ -116,12 +116,16 @@ fn agrees(chain: &(Vec<u8>, Option<bool>), ours: &Answer) -> bool {
     }
 }
 
-fn panics() -> Told {
+fn no_data(says: &str) -> Told {
     Told {
-        line: "panics".to_string(),
+        line: says.to_string(),
         data: String::new(),
-        says: "panics".to_string(),
+        says: says.to_string(),
     }
+}
+
+fn panics() -> Told {
+    no_data("panics")
 }
 
 fn told(chain: &Option<(Vec<u8>, Option<bool>)>) -> Told {
@@ -192,8 +196,12 @@ fn refusal(r: &Record, ours: &Answer) -> Option<Finding> {
     if due == 0 && given == 0 {
         return None;
     }
-    let chain = if r.kind == 7 { None } else { old::chain(r, false) };
-    let (old, mut ours) = (told(&chain), ours.told(usize::MAX));
+    let old = if r.kind == 7 {
+        no_data("has no such chain")
+    } else {
+        told(&old::chain(r, false))
+    };
+    let mut ours = ours.told(usize::MAX);
     if given == due {
         return Some(Finding::Refused(due, Both { old, ours }));
     }
