@@ -234,7 +234,9 @@ def comparing(c):
 
 def speech_check(c):
     writes("bit 0", c.speech_crc, ([1] + [0] * 59,), bits("1001 0001"), spare=0)
-    # X^66 = X^3 + X^5, since X^7 = X^3 + 1; byhand.py has every power.
+    # X^7 = X^3 + 1, so X^8 = X^4 + X, X^16 = X^8 + X^2 = X^4 + X^2 + X, X^32 = X^8 + X^4 + X^2 = X^2 + X, X^64 = X^4 + X^2, and
+    # the last data bit's X^66 is X^6 + X^4; byhand.py has the powers between.
+    writes("bit 59", c.speech_crc, ([0] * 59 + [1],), bits("0000 1011"), spare=0)
     chance = random.Random(7)
     for place in range(60):
         data = [int(i == place) for i in range(60)]
