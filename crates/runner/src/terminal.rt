@@ -1,10 +1,7 @@
-// What the runner says on standard error beside failures.
+// What the runner says on standard error while it goes on.
 use libc::STDERR_FILENO;
-
-// There is no number for another line.
-pub fn too_many() {
-    io::write_all(STDERR_FILENO, b"runner: too many records\n");
-}
+use reading::Got;
+use reading::Turn;
 
 // How many bytes have come since the last report, and how many megabytes were reported.
 pub struct Meter {
@@ -26,8 +23,8 @@ fn report(count: u64, megabytes: u64) {
 }
 
 // On long input a line now and then, where standard error is a terminal.
-pub fn metered(meter: Meter, bytes: usize, count: u64) -> Meter {
-    let since = std::num::wrapping_add_u64(meter.since, bytes as u64);
+pub fn metered(meter: Meter, got: Got, turn: Turn) -> Meter {
+    let since = std::num::wrapping_add_u64(meter.since, got.bytes() as u64);
     if since < REPORT {
         return Meter {
             since: since,
@@ -36,7 +33,7 @@ pub fn metered(meter: Meter, bytes: usize, count: u64) -> Meter {
     }
     let megabytes = std::num::wrapping_add_u64(meter.megabytes, MEGABYTES);
     if libc::isatty(STDERR_FILENO) == 1 {
-        report(count, megabytes);
+        report(turn.count(), megabytes);
     }
     Meter {
         since: since - REPORT,

@@ -2,45 +2,38 @@
 ghost use Prim.Native.Nat.{_+_, _≤_, _<_};
 ghost use mathlib.Core.Path.{_≡_};
 ghost use lib.ListN.{length};
+ghost use Rattle.runner.specs.Loop.{Reads};
 use libc::STDIN_FILENO;
 use libc::STDOUT_FILENO;
+use reading::Got;
+use reading::Turn;
 
-// What one read brought; no bytes and no failure is the end of the input.
-pub struct Got {
-    pub bytes: usize,
-    pub is_failed: bool,
-}
-
-fn unread() -> Got
-    ensures { λ r. ⌜ r .bytes ≡ 0 ⌝ }
+// What was got, after a word on standard error where the read failed.
+fn told(got: Got) -> Got
+    ensures { λ r. ⌜ r ≡ got ⌝ }
 {
-    os::fail(b"runner: standard input cannot be read");
-    Got {
-        bytes: 0,
-        is_failed: true,
+    if got.failed() {
+        os::fail(b"runner: standard input cannot be read");
     }
+    got
 }
 
-// One read into buf from `fill` on. A failure is said on standard error.
-pub fn read_some(buf: &mut [u8], fill: usize) -> Got
-    requires { ⌜ fill < length (now buf) ⌝ }
-    ensures { λ r. ⌜ fill + r .bytes ≤ length (now (buf .entry)) ⌝ }
+// One read into buf, behind what is kept there.
+pub fn read_some(buf: &mut [u8], held: Turn) -> Got
+    requires { ⌜ held .kept < length (now buf) ⌝ }
+    ensures { λ r. ⌜ Reads held r (now (buf .entry)) (now (buf .exit)) ⌝ }
 {
+    let fill = held.kept();
     let mut tries = u64::MAX;
     while tries > 0 {
-        let got = libc::read(STDIN_FILENO, &mut buf[fill..]);
-        if got >= 0 {
-            return Got {
-                bytes: io::count(got, &buf[fill..]),
-                is_failed: false,
-            };
-        }
-        if os::errno() != libc::EINTR {
-            return unread();
+        let answer = libc::read(STDIN_FILENO, &mut buf[fill..]);
+        let got = Got::answered(answer, buf.len() - fill);
+        if !got.failed() || os::errno() != libc::EINTR {
+            return told(got);
         }
         tries -= 1;
     }
-    unread()
+    told(Got::answered(-1, 0))
 }
 
 // One write of text from `from` on: how many bytes were taken, and 0 for a failure.

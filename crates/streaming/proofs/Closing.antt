@@ -1,16 +1,16 @@
 -- Laws of the last lines.
 -- Assumes nothing.
-use mathlib.Core.Path.{_≡_, refl, sym, ap, ap₂, subst, _∙_}
+use mathlib.Core.Path.{_≡_, refl, sym, ap, subst, _∙_}
 use mathlib.Core.Bool.{Bool, true, false}
-use mathlib.Core.List.{List, [], _++_}
-use Prim.Native.Nat.{ℕ, zero, suc, _+_, _*_, _^_, _≤_, _<_}
+use mathlib.Core.List.{List, _++_}
+use Prim.Native.Nat.{ℕ, zero, suc, _+_, _*_, _≤_, _<_}
 use native.Mathlib.Omega.{arith}
-use borrow.Author.Tests.{leb-true, leb-false, ltb-true, ltb-false, le-leb, lt-leb, lt-ltb, le-ltb}
+use borrow.Author.Tests.{leb-false, ltb-false, le-leb, lt-leb, lt-ltb, le-ltb}
 use lib.Dec.{ltb, leb}
 use lib.ListN.{length, drop, length-append}
 use Rattle.base.specs.Refusal.{LIMIT, ROOM, accepted, when, unless}
 use Rattle.base.specs.Places.{written}
-use Rattle.records.specs.Recording.{itemAt, stepAt}
+use Rattle.records.specs.Recording.{stepAt}
 use Rattle.records.specs.declared.Item.{Item}
 use Rattle.records.specs.declared.Step.{Step}
 use Rattle.lines.specs.Lines.{LINE, endLine}
@@ -48,16 +48,16 @@ module _ (count room : ℕ) where
 
 -- ---- the text of each item
 pub short-put :
-    (count : ℕ) {i j : Item} {next : ℕ} {old new : List ℕ} → i ≡ j → Put (short j count) 0 old new next → next ≤ LINE
-    → Put (short i count) 0 old new next × (next ≤ LINE)
-short-put count {i} {j} {next} {old} {new} e p h = (subst (λ (k : Item). Put (short k count) 0 old new next) (sym e) p, h)
+    (count at : ℕ) {i j : Item} {next : ℕ} {old new : List ℕ} → i ≡ j → Put (short j count) at old new next → next ≤ at + LINE
+    → Put (short i count) at old new next × (next ≤ at + LINE)
+short-put count at {i} {j} {next} {old} {new} e p h = (subst (λ (k : Item). Put (short k count) at old new next) (sym e) p, h)
 
 pub closing-put :
-    (rest : List ℕ) (count : ℕ) {found : Step} {m next : ℕ} {old mid new : List ℕ} → found ≡ stepAt rest 0
-    → Put (short (found .item) count) 0 old mid m → Put (endLine count) m mid new next → Put (closing rest count) 0 old new next
+    (rest : List ℕ) (count at : ℕ) {found : Step} {m next : ℕ} {old mid new : List ℕ} → at ≤ length old → found ≡ stepAt rest 0
+    → Put (short (found .item) count) at old mid m → Put (endLine count) m mid new next → Put (closing rest count) at old new next
 unfolding closing
-closing-put rest count {found} {m} {next} {old} {mid} {new} e p q =
-    subst (λ (i : Item). Put (short i count ++ endLine count) 0 old new next) (ap (λ (t : Step). t .item) e) (put-then (omega arith) p q)
+closing-put rest count at {found} {m} {next} {old} {mid} {new} h e p q =
+    subst (λ (i : Item). Put (short i count ++ endLine count) at old new next) (ap (λ (t : Step). t .item) e) (put-then h p q)
 
 -- ---- what the entry answers
 pub closes-refused : (rest : List ℕ) (count : ℕ) (old : List ℕ) (r : ℕ) → r ≡ closingRefusal count (length old) → (r ≡ 0 → ⊥) → Closes rest count old (Refused r) old

@@ -1,10 +1,9 @@
 -- Document 01's example, and the empty input, computed from the definitions.
 -- Assumes nothing.
 use mathlib.Core.Path.{_≡_, refl}
-use mathlib.Core.List.{List, [], _∷_, _++_}
-use Prim.Native.Nat.{ℕ}
+use mathlib.Core.List.{[], _∷_}
 use Rattle.lines.specs.Text.{ascii, sign, decimalWithin}
-use Rattle.lines.specs.Lines.{counted, judged, heading, line, endLine}
+use Rattle.lines.specs.Lines.{counted, heading, line, endLine}
 use Rattle.streaming.specs.Runner.{one, feed, closing, linesOf}
 use Rattle.records.specs.Kinds.{symbolsOf}
 use Rattle.records.specs.Recording.{itemAt}

@@ -2,29 +2,25 @@
 -- Assumes nothing.
 use mathlib.Core.Path.{_≡_, refl, sym, ap, ap₂, subst, _∙_}
 use mathlib.Core.Bool.{Bool, true, false}
-use mathlib.Core.List.{List, [], _∷_, _++_, append-assoc, append-nil}
+use mathlib.Core.List.{List, [], _∷_, _++_}
 use Prim.Native.Nat.{ℕ, zero, suc, _+_, _-_, _≤_, _<_}
-use native.Mathlib.Numerals.{add-one}
 use native.Mathlib.Omega.{arith}
-use lib.ListN.{length, take, drop, getD, length-take, length-drop, take-append-drop}
-use lib.Seq.{take-suc, take-length, take-add, length-take-le, getD-take, getD-drop, drop-drop, take-take, take-nil, drop-length}
-use Rattle.records.specs.Kinds.{symbolsOf, START-BYTES, bodyLength}
+use lib.ListN.{length, take, drop, getD}
+use lib.Seq.{take-suc, take-length, length-take-le, getD-take, take-take, take-nil}
+use Rattle.records.specs.Kinds.{symbolsOf, bodyLength}
 use Rattle.records.specs.Recording.{pick, itemAt, bodyAt, past}
 use Rattle.records.specs.declared.Item.{Item}
 use Rattle.records.specs.declared.Item.the-variants.{Whole, Unknown, Cut, End}
-use Rattle.records.proofs.Laws.{item-end, item-unknown, item-whole, item-cut}
+use Rattle.records.proofs.Laws.{item-unknown, item-whole, item-cut}
 use Rattle.answers.specs.Answering.{answerOf}
 use Rattle.lines.specs.Lines.{recordLine, unknownLine}
-use Rattle.streaming.specs.Runner.{State, start, judge, one, feed}
+use Rattle.streaming.specs.Runner.{State, holding, judge, one, feed}
+use Rattle.streaming.specs.Pieces.{Waits}
 
 pub feed-append : (state : State) (a b : List ℕ) → feed state (a ++ b) ≡ feed (feed state a) b
 unfolding feed
 feed-append state [] b = refl
 feed-append state (x ∷ a) b = feed-append (one state x) a b
-
--- with `held` gathered, and text written after so many records
-abbrev pub holding : List ℕ → List ℕ → ℕ → State
-holding held text count = record { held = held; text = text; count = count; stopped = false }
 
 abbrev pub over : List ℕ → ℕ → State
 over text count = record { held = []; text = text; count = count; stopped = true }
@@ -98,3 +94,26 @@ module _ (p text : List ℕ) (count : ℕ) where
       grow 0 h refl
       ∙ ap (λ (i : Item). judge i (take 1 p) text count) (item-unknown (take 1 p) 0 (omega arith) (ap symbolsOf (first 0) ∙ z))
       ∙ ap (λ (k : ℕ). over (text ++ unknownLine (count + 1) k) count) (first 0)
+
+-- ---- what is held waits for more
+waits-nothing : Waits (itemAt [] 0)
+unfolding itemAt
+waits-nothing = tt
+
+pub held-waits : (state : State) → Waits (itemAt (state .held) 0) → (s : List ℕ) → Waits (itemAt (feed state s .held) 0)
+unfolding feed one
+held-waits state w [] = w
+held-waits state w (x ∷ s) = held-waits (one state x) (next (state .stopped) (itemAt (state .held ++ (x ∷ [])) 0) refl) s
+  where
+    next :
+        (t : Bool) (i : Item) → itemAt (state .held ++ (x ∷ [])) 0 ≡ i
+        → Waits (itemAt (pick t state (judge i (state .held ++ (x ∷ [])) (state .text) (state .count)) .held) 0)
+    next true i e = w
+    next false (Whole kind place) e = waits-nothing
+    next false (Unknown kind) e = waits-nothing
+    next false (Cut kind) e = subst Waits (sym e) tt
+    next false End e = subst Waits (sym e) tt
+
+-- all that is held after any input
+pub stands-waits : (input : List ℕ) {rest text : List ℕ} {count : ℕ} → feed (holding [] [] 0) input ≡ holding rest text count → Waits (itemAt rest 0)
+stands-waits input e = subst (λ (l : List ℕ). Waits (itemAt l 0)) (ap (λ (z : State). z .held) e) (held-waits (holding [] [] 0) waits-nothing input)

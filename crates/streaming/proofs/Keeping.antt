@@ -1,21 +1,27 @@
 -- Laws of what is moved to a buffer's front.
 -- Assumes nothing.
-use mathlib.Core.Path.{_≡_, refl, sym, ap, subst, _∙_}
-use mathlib.Core.Bool.{Bool, true, false}
+use mathlib.Core.Path.{_≡_, sym, ap, subst, _∙_}
+use mathlib.Core.Bool.{true, false}
+use mathlib.Core.Logic.{_⊎_, inl, inr}
 use mathlib.Core.List.{List, [], _∷_, _++_}
 use Prim.Native.Nat.{ℕ, _+_, _-_, _*_, _≤_, _<_}
 use native.Mathlib.Numerals.{add-one}
 use native.Mathlib.Omega.{arith}
-use lib.ListN.{length, take, drop, getD, set, length-append, length-drop}
-use lib.Seq.{take-suc, take-add, length-take-le, getD-drop, take-suc-set, drop-set-lt, drop-drop, drop-at}
+use lib.ListN.{length, take, drop, getD, set, length-append, length-drop, take-append-drop}
+use lib.Seq.{take-suc, take-add, length-take-le, getD-drop, take-suc-set, take-at, drop-set-lt, drop-drop, drop-at}
 use Rattle.base.specs.Places.{written}
+use Rattle.records.specs.Recording.{itemAt}
 use Rattle.lines.specs.Lines.{LINE}
-use Rattle.streaming.specs.Steps.{Progress, LARGEST, goesOn, progress, report, Steps}
-use Rattle.streaming.specs.Advancing.{LONGEST, Advances}
+use Rattle.streaming.specs.Runner.{State, holding, feed}
+use Rattle.streaming.specs.Pieces.{Waits}
+use Rattle.streaming.specs.Steps.{Progress, LARGEST, goesOn, progress, Steps}
+use Rattle.streaming.specs.Advancing.{advancedTo, Advances}
 use Rattle.streaming.specs.declared.Stepped.{Stepped}
 use Rattle.streaming.specs.declared.inner.Advanced.{Advanced}
 use Rattle.streaming.proofs.Turns.{going-yes}
-use Rattle.streaming.proofs.Pieces.{fed, settled, waits-small}
+use Rattle.streaming.proofs.Feeding.{feed-append}
+use Rattle.streaming.proofs.Pieces.{fed, settled, waits-small, waits-drop}
+use Rattle.streaming.proofs.Onward.{onward}
 
 -- ---- a loop that moves entry i
 head : (s : List ℕ) (at : ℕ) → getD (drop at s) 0 0 ≡ getD s at 0
@@ -70,19 +76,47 @@ module _ (bytes : List ℕ) (count : ℕ) (old : List ℕ) {p : Stepped} {new : 
   pub taken-in : p .taken ≤ length bytes
   taken-in = omega (arith, taken-is, fed [] bytes count (length old) .inside)
 
-  pub advanced :
-      (buf : List ℕ) {kept : ℕ} → length new ≡ length old → kept ≡ length bytes - p .taken → take (length bytes - p .taken) buf ≡ drop (p .taken) bytes
-      → Advances bytes count old (record { kept = kept; written = p .written; count = p .count; stopped = p .stopped }) buf new
-  advanced buf {kept} l k e = record {
-    rest = ap (λ (n : ℕ). take n buf) k ∙ e ∙ ap (λ (n : ℕ). drop n bytes) taken-is;
-    target = s .target;
-    text = written-is;
-    number = count-is;
-    stops = stopped-is;
-    kept-in = omega arith;
-    written-in = omega (arith, written-is, written-fits (q .text) old new (s .target) l);
-    small = λ z m r.
-        let go : goesOn (length old) q ≡ true = going-yes (length old) (length (q .text)) (q .count) (sym stopped-is ∙ z)
-        (omega (arith, s .small z, taken-in, written-is)) (omega (arith, count-is)) in
-        omega (arith, waits-small bytes (q .at) (settled bytes (length old) count go), taken-is);
-  }
+  -- what was written is at the target's front
+  front : take (p .written) new ≡ q .text
+  front =
+      ap (λ (l : List ℕ). take (p .written) l) (s .target)
+      ∙ take-at (q .text) (drop (length (q .text)) old) (p .written) (sym written-is)
+
+  waits-left : p .stopped ≡ false → 3 * length bytes + LINE ≤ length old → p .count < LARGEST → Waits (itemAt bytes (p .taken))
+  waits-left z h m =
+      let go : goesOn (length old) q ≡ true =
+      going-yes (length old) (length (q .text)) (q .count) (sym stopped-is ∙ z) (omega (arith, s .small z, taken-in, written-is)) (omega (arith, count-is)) in
+      subst (λ (n : ℕ). Waits (itemAt bytes n)) (sym taken-is) (settled bytes (length old) count go)
+
+  module _ (buf : List ℕ) {kept : ℕ} (k : kept ≡ length bytes - p .taken) (left : take (length bytes - p .taken) buf ≡ drop (p .taken) bytes) where
+    abbrev r : Advanced
+    r = record { kept = kept; written = p .written; count = p .count; stopped = p .stopped }
+
+    rest : take kept buf ≡ drop (p .taken) bytes
+    rest = ap (λ (n : ℕ). take n buf) k ∙ left
+
+    came : (text : List ℕ) → feed (holding [] text count) bytes ≡ feed (advancedTo text r new) (take kept buf)
+    came text =
+        let here : advancedTo text r new ≡ record { held = []; text = text ++ q .text; count = q .count; stopped = q .stopped } = rw (front, count-is, stopped-is) in
+        let taken : List ℕ = take (q .at) bytes in
+        let over : List ℕ = drop (q .at) bytes in
+        ap (λ (l : List ℕ). feed (holding [] text count) l) (sym (take-append-drop (q .at) bytes))
+        ∙ feed-append (holding [] text count) taken over
+        ∙ ap (λ (z : State). feed z over) (fed text bytes count (length old) .is ∙ sym here)
+        ∙ ap (λ (l : List ℕ). feed (advancedTo text r new) l) (ap (λ (n : ℕ). drop n bytes) (sym taken-is) ∙ sym rest)
+
+    pub advanced : length new ≡ length old → Advances bytes count old r buf new
+    advanced l = record {
+      fed = came;
+      onward = λ z. moves (onward bytes (length old) count .moves (sym stopped-is ∙ z));
+      numbered = λ z. omega (arith, onward bytes (length old) count .numbered (sym stopped-is ∙ z), count-is);
+      waits = λ z m. subst (λ (x : List ℕ). Waits (itemAt x 0)) (sym rest) (waits-drop bytes (p .taken) (waits-left z (m .lines) (m .number)));
+      small = λ z m. omega (arith, waits-small bytes (p .taken) (waits-left z (m .lines) (m .number)), k);
+      kept-in = omega arith;
+      written-in = omega (arith, written-is, written-fits (q .text) old new (s .target) l);
+      most = omega (arith, s .most, taken-in);
+    }
+      where
+        moves : (count < q .count) ⊎ ((q .count ≡ count) × (q .at ≡ 0)) → (count < p .count) ⊎ ((p .count ≡ count) × (kept ≡ length bytes))
+        moves (inl x) = inl (omega (arith, count-is))
+        moves (inr x) = inr (count-is ∙ x .0, omega (arith, x .1, taken-is))

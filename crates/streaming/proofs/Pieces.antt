@@ -1,6 +1,6 @@
 -- A step takes what the runner's definition takes, and so do any steps over any pieces.
 -- Assumes nothing.
-use mathlib.Core.Path.{_≡_, refl, sym, ap, ap₂, subst, _∙_}
+use mathlib.Core.Path.{_≡_, refl, sym, ap, subst, _∙_}
 use mathlib.Core.Bool.{Bool, true, false}
 use mathlib.Core.Logic.{_⊎_, inl, inr}
 use mathlib.Core.List.{List, [], _∷_, _++_, append-assoc, append-nil}
@@ -8,20 +8,20 @@ use Prim.Native.Nat.{ℕ, zero, suc, _+_, _-_, _≤_, _<_}
 use native.Mathlib.Omega.{arith}
 use borrow.Author.Tests.{eqb-true, eqb-false}
 use lib.Dec.{eqb}
-use lib.ListN.{length, take, drop, getD, length-drop, take-append-drop, drop-of-length-le}
+use lib.ListN.{length, take, drop, getD, length-drop, take-append-drop}
 use lib.Seq.{take-add, getD-drop, drop-drop}
 use Rattle.records.specs.Kinds.{symbolsOf, bodyLength}
 use Rattle.records.specs.Recording.{itemAt, bodyAt, past}
 use Rattle.records.specs.declared.Item.{Item}
 use Rattle.records.specs.declared.Item.the-variants.{Whole, Unknown, Cut, End}
-use Rattle.records.proofs.Laws.{symbols-most, item-end, is-whole, is-unknown, is-cut, is-end}
+use Rattle.records.proofs.Laws.{symbols-most, item-end, item-cut, is-whole, is-unknown, is-cut, is-end}
 use Rattle.answers.specs.Answering.{answerOf}
 use Rattle.lines.specs.Lines.{recordLine, unknownLine}
-use Rattle.streaming.specs.Runner.{State, start, feed, closing, linesOf}
+use Rattle.streaming.specs.Runner.{State, holding, start, feed, closing, linesOf}
 use Rattle.streaming.specs.Steps.{Progress, fresh, goesOn, taken, turn, turns, progress}
 use Rattle.streaming.specs.Pieces.{Ran, begins, comes, steps, Waits, AnyPieces, AnyPiecesStopped}
 use Rattle.streaming.proofs.Turns.{going-room, turn-idle, turn-item, turn-kept, turn-still, turns-still}
-use Rattle.streaming.proofs.Feeding.{feed-append, holding, over, over-stays, gathers-whole, gathers-short, gathers-unknown}
+use Rattle.streaming.proofs.Feeding.{feed-append, over, over-stays, gathers-whole, gathers-short, gathers-unknown}
 
 head : (s : List ℕ) (at : ℕ) → getD (drop at s) 0 0 ≡ getD s at 0
 head s at = getD-drop at s 0 0 ∙ ap (λ (m : ℕ). getD s m 0) (omega arith)
@@ -179,8 +179,28 @@ waits-small s at w = go (itemAt s at) refl w
     go (Cut kind) e v = let c = is-cut s at e in omega (arith, c .short, symbols-most kind)
     go End e v = omega (arith, is-end s at e)
 
+-- it waits wherever it stands
+pub waits-drop : (s : List ℕ) (at : ℕ) → Waits (itemAt s at) → Waits (itemAt (drop at s) 0)
+waits-drop s at w = go (itemAt s at) refl w
+  where
+    front : {i : Item} → itemAt (drop at s) 0 ≡ i → Waits i → Waits (itemAt (drop at s) 0)
+    front e v = subst Waits (sym e) v
+
+    go : (i : Item) → itemAt s at ≡ i → Waits i → Waits (itemAt (drop at s) 0)
+    go (Whole kind place) e v = absurd v
+    go (Unknown kind) e v = absurd v
+    go (Cut kind) e v =
+        let c = is-cut s at e in
+        let same : kind ≡ getD (drop at s) 0 0 = c .kind-is ∙ sym (head s at) in
+        let left : length (drop at s) < past kind 0 = omega (arith, c .short, c .inside, length-drop at s) in
+        front
+        (item-cut (drop at s) 0 (omega (arith, c .inside, length-drop at s)) (λ z. c .known (ap symbolsOf same ∙ z))
+        (subst (λ (k : ℕ). length (drop at s) < past k 0) same left))
+        tt
+    go End e v = front (item-end (drop at s) 0 (omega (arith, is-end s at e, length-drop at s))) tt
+
 -- the definition holds it
-waits-held : (s text : List ℕ) (count : ℕ) → Waits (itemAt s 0) → feed (holding [] text count) s ≡ holding s text count
+pub waits-held : (s text : List ℕ) (count : ℕ) → Waits (itemAt s 0) → feed (holding [] text count) s ≡ holding s text count
 unfolding feed
 waits-held s text count w = go (itemAt s 0) refl w
   where
@@ -210,7 +230,7 @@ ran (steps {input} {rest} {text} {count} room r) =
     ∙ feed-append (holding [] text count) (take (p .at) rest) (drop (p .at) rest)
     ∙ ap (λ (z : State). feed z (drop (p .at) rest)) (fed text rest count room .is)
 
-lines-by : (input : List ℕ) {state : State} → feed start input ≡ state → linesOf input ≡ state .text ++ closing (state .held) (state .count)
+pub lines-by : (input : List ℕ) {state : State} → feed start input ≡ state → linesOf input ≡ state .text ++ closing (state .held) (state .count)
 lines-by input e = ap (λ (z : State). z .text ++ closing (z .held) (z .count)) e
 
 pub any-pieces : AnyPieces

@@ -2,33 +2,33 @@
 -- Assumes nothing.
 use mathlib.Core.Path.{_≡_, refl, sym, ap, ap₂, subst, _∙_}
 use mathlib.Core.Bool.{Bool, true, false, not, cond}
-use mathlib.Core.List.{List, [], _∷_, _++_}
+use mathlib.Core.List.{List, _++_}
 use Prim.Native.Nat.{ℕ, zero, suc, _+_, _-_, _*_, _≤_, _<_}
 use native.Mathlib.Numerals.{sub-one}
 use native.Mathlib.Omega.{arith}
-use borrow.Author.Tests.{ltb-true, ltb-false, leb-true, leb-false, lt-ltb, le-ltb, le-leb, lt-leb}
+use borrow.Author.Tests.{ltb-true, leb-true, lt-ltb, le-leb, lt-leb}
 use lib.Dec.{leb, ltb}
 use lib.ListN.{length, take, drop, take-append-drop}
 use lib.Seq.{length-take-le, drop-drop}
 use Rattle.base.specs.Bits.{both}
 use Rattle.base.specs.Places.{written}
-use Rattle.records.specs.Kinds.{symbolsOf, bodyLength}
+use Rattle.records.specs.Kinds.{bodyLength}
 use Rattle.records.specs.Recording.{pick, itemAt, stepAt, after, bodyAt, past}
 use Rattle.records.specs.declared.Item.{Item}
 use Rattle.records.specs.declared.Item.the-variants.{Whole, Unknown, Cut, End}
 use Rattle.records.specs.declared.Step.{Step}
-use Rattle.records.proofs.Laws.{symbols-least, IsWhole, is-whole}
+use Rattle.records.proofs.Laws.{symbols-least, is-whole}
 use Rattle.answers.specs.declared.Answer.{Answer}
 use Rattle.answers.specs.Answering.{answerOf}
 use Rattle.lines.specs.Lines.{LINE, recordLine, unknownLine}
-use Rattle.lines.specs.Placing.{placed, Put}
+use Rattle.lines.specs.Placing.{Put}
 use Rattle.lines.proofs.Placing.{put-front, put-rest}
-use Rattle.streaming.specs.Steps.{Progress, fresh, LARGEST, going, goesOn, taken, turn, turns, progress, report, Steps}
+use Rattle.streaming.specs.Steps.{Progress, LARGEST, going, goesOn, taken, turn, turns, progress, report, Steps}
 use Rattle.streaming.specs.Turns.{here, Reached, Turned}
 use Rattle.streaming.specs.declared.Stepped.{Stepped}
 
 -- ---- whether it goes on
-no-true : {A : Type 0} → false ≡ true → A
+pub no-true : {A : Type 0} → false ≡ true → A
 no-true q = absurd (omega (arith, ap {B = ℕ} (λ (t : Bool). cond t 1 0) q))
 
 module _ (room filled count : ℕ) where
@@ -124,20 +124,26 @@ module _ (bytes : List ℕ) (p : Stepped) (old : List ℕ) (pre : Reached p old)
         is =
             ap₂ (λ (x : ℕ) (t : List ℕ). record { at = x; text = t; count = p .count + 1; stopped = false }) a (put-front (pre .inside) q)
             ∙ sym (turn-item bytes (length old) (here p old) (here-going ∙ e) f);
-        reached = record { inside = m; small = λ z. omega (arith, pre .small (g .0), symbols-least kind (w .known)) };
+        reached =
+            let few : next ≤ 3 * at = omega (arith, pre .small (g .0), symbols-least kind (w .known)) in
+            record { inside = m; small = λ z. few; most = omega (arith, few) };
         onward = omega (arith, q .ends);
         rest = put-rest (pre .inside) q;
       }
 
   pub unknown-turned :
       going (length old) (p .written) (p .count) (p .stopped) ≡ true → {kind next : ℕ} {new : List ℕ}
-      → itemAt bytes (p .taken) ≡ Unknown kind → Put (unknownLine (p .count + 1) kind) (p .written) old new next → next ≤ length new
+      → itemAt bytes (p .taken) ≡ Unknown kind → Put (unknownLine (p .count + 1) kind) (p .written) old new next → next ≤ p .written + LINE → next ≤ length new
       → Turned bytes p old (record { taken = p .taken + 1; written = next; count = p .count; stopped = true }) new
-  unknown-turned e {kind} {next} {new} f q m = record {
+  unknown-turned e {kind} {next} {new} f q l m = record {
     is =
         ap (λ (t : List ℕ). record { at = p .taken + 1; text = t; count = p .count; stopped = true }) (put-front (pre .inside) q)
         ∙ sym (turn-item bytes (length old) (here p old) (here-going ∙ e) f);
-    reached = record { inside = m; small = λ z. no-true (sym z) };
+    reached = record {
+      inside = m;
+      small = λ z. no-true (sym z);
+      most = omega (arith, pre .small (going-room (length old) (p .written) (p .count) (p .stopped) e .0));
+    };
     onward = omega (arith, q .ends);
     rest = put-rest (pre .inside) q;
   }
@@ -161,7 +167,7 @@ module _ (bytes : List ℕ) (count : ℕ) (old : List ℕ) where
   pub going-begins : Going bytes count old (record { taken = 0; written = 0; count = count; stopped = false }) (length bytes) old
   going-begins = record {
     is = refl;
-    reached = record { inside = omega arith; small = λ z. omega arith };
+    reached = record { inside = omega arith; small = λ z. omega arith; most = omega arith };
     same = refl;
     rest = refl;
   }
@@ -196,6 +202,7 @@ module _ (bytes : List ℕ) (count : ℕ) (old : List ℕ) where
         target =
             whole (p .written) out (g .reached .inside) (g .rest) ∙ ap (λ (q : Progress). written (q .text) old) (sym all);
         small = g .reached .small;
+        most = g .reached .most;
       }
     where
       whole : (n : ℕ) (l : List ℕ) → n ≤ length l → drop n l ≡ drop n old → l ≡ written (take n l) old

@@ -16,9 +16,13 @@ pub record State : Type 0 where
   pub count : ℕ
   pub stopped : Bool
 
+-- with `held` gathered, and text written after so many records
+abbrev pub holding : List ℕ → List ℕ → ℕ → State
+holding held text count = record { held = held; text = text; count = count; stopped = false }
+
 -- before the first byte
 abbrev pub start : State
-start = record { held = []; text = []; count = 0; stopped = false }
+start = holding [] [] 0
 
 -- what is held is looked at: a whole record writes its line and counts, an unknown kind writes its line and stops the reading, and anything else waits for more
 abbrev pub judge : Item → List ℕ → List ℕ → ℕ → State

@@ -2,7 +2,7 @@
 -- Assumes nothing.
 use mathlib.Core.Bool.{Bool, true, false, not}
 use mathlib.Core.Path.{_≡_}
-use mathlib.Core.List.{List, [], _∷_, _++_}
+use mathlib.Core.List.{List, [], _++_}
 use Prim.Native.Nat.{ℕ, zero, suc, _+_, _*_, _≤_}
 use lib.Dec.{leb, ltb}
 use lib.ListN.{length}
@@ -71,3 +71,4 @@ pub record Steps (bytes : List ℕ) (count : ℕ) (old : List ℕ) (answer : Ste
   pub result : answer ≡ report (progress bytes count (length old))
   pub target : new ≡ written (progress bytes count (length old) .text) old
   pub small : answer .stopped ≡ false → answer .written ≤ 3 * answer .taken
+  pub most : answer .written ≤ 3 * answer .taken + LINE

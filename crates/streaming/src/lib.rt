@@ -4,23 +4,21 @@
 pub mod inner;
 
 ghost use mathlib.Core.Path.{_≡_};
-ghost use Prim.Native.Nat.{_+_, _*_, _≤_, _<_};
+ghost use Prim.Native.Nat.{_+_, _≤_};
 ghost use lib.ListN.{length};
 ghost use Rattle.records.specs.Recording.{bodyAt, past};
 ghost use Rattle.answers.specs.Answering.{answerOf};
 ghost use Rattle.lines.specs.Lines.{LINE as Lines·LINE, recordLine};
 ghost use Rattle.lines.specs.Placing.{Put};
 ghost use Rattle.streaming.specs.Turns.{Reached, Turned};
-ghost use Rattle.streaming.specs.Steps.{Steps, LARGEST, going};
-ghost use Rattle.streaming.specs.Runner.{short, closing};
+ghost use Rattle.streaming.specs.Steps.{Steps, going};
 ghost use Rattle.streaming.specs.Closing.{closingRefusal, Closes};
 use answers::answer_to;
 use base::LIMIT;
 use base::ROOM;
+use inner::close;
 use lines::LINE;
-use lines::inner::put_end;
 use lines::inner::put_record;
-use lines::inner::put_short;
 use lines::inner::put_unknown;
 use records::Item;
 
@@ -132,29 +130,6 @@ fn closing_refusal(count: u64, room: usize) -> u8
     0
 }
 
-// The line of a record that the end of the input cuts, and nothing for any other item.
-fn put_cut(item: Item, count: u64, out: &mut [u8]) -> usize
-    requires { ⌜ (count < LARGEST) × (Lines·LINE ≤ length (now out)) ⌝ }
-    ensures { λ r. ⌜ Put (short item count) 0 (now (out .entry)) (now (out .exit)) r × (r ≤ Lines·LINE) ⌝ }
-{
-    match item {
-        Item::Cut(kind) => put_short(count + 1, kind, out, 0),
-        Item::Whole { kind: _, place: _ } => 0,
-        Item::Unknown(_) => 0,
-        Item::End => 0,
-    }
-}
-
-fn close(rest: &[u8], count: u64, out: &mut [u8]) -> usize
-    requires { ⌜ (count < LARGEST) × (2 * Lines·LINE ≤ length (now out)) ⌝ }
-    ensures { λ r. ⌜ Put (closing (now (rest .entry)) count) 0 (now (out .entry)) (now (out .exit)) r ⌝ }
-{
-    let found = records::take(rest, 0);
-    let item = found.item;
-    let next = put_cut(item, count, out);
-    put_end(count, out, next)
-}
-
 // Writes the last lines, once the input has ended: rest is what no step took, or nothing if the
 // reading has stopped.
 pub fn finish(rest: &[u8], count: u64, out: &mut [u8]) -> Closed
@@ -164,5 +139,5 @@ pub fn finish(rest: &[u8], count: u64, out: &mut [u8]) -> Closed
     if refusal != 0 {
         return Closed::Refused(refusal);
     }
-    Closed::Written(close(rest, count, out))
+    Closed::Written(close(rest, count, out, 0))
 }

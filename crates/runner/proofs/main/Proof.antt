@@ -13,8 +13,22 @@ slice-aggregate-run-2 c = search needs
 run-requires : tie.Need-run-requires
 run-requires c κs = record { input = omega arith; output = omega arith }
 
+next-requires : tie.Need-next-requires
+next-requires c κs = search needs
+
+tell-requires : tie.Need-tell-requires
+tell-requires c κs = search needs
+
 returns : tie.Need-returns
 returns c = search needs
 
 pub main-spec : {M : Type 1} → statement M
-main-spec = tie.close (tie.spec slice-aggregate-run slice-aggregate-run-2 run-requires returns)
+main-spec =
+    tie.close
+    (tie.spec
+    slice-aggregate-run
+    slice-aggregate-run-2
+    run-requires
+    next-requires
+    tell-requires
+    returns)

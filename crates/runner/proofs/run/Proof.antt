@@ -1,42 +1,80 @@
--- What stands in the buffer leaves room for a read.
-use mathlib.Core.Path.{_≡_}
-use Prim.Native.Nat.{_<_}
+-- The story that the turns tell, and that each counts a record or keeps more.
+use mathlib.Core.Bool.{true}
+use mathlib.Core.Path.{_≡_, refl, sym, _∙_}
 use lib.ListN.{length}
+use Rattle.reading.specs.Turns.{going}
+use Rattle.runner.specs.Loop.{Story}
+use Rattle.runner.proofs.Loop.{Ready, ready-first, story-first, story-on, ready-on, onward, left, falls}
 use native.Mathlib.Omega.{arith}
 use borrow.Author.Needs.{needs}
 use Rattle.runner.proofs.run.Statement.{statement}
 use Rattle.runner.proofs.run.Tie as tie
 
 abbrev Inv-loop : tie.InvT-loop
-Inv-loop buf₀ out₀ held₀ meter₀ turns₀ buf out held meter turns =
-    (held .fill < length buf) × (length buf ≡ length buf₀) × (length out ≡ length out₀)
+Inv-loop buf₀ out₀ held₀ meter₀ buf out held meter =
+    (length buf ≡ length buf₀) × (length out ≡ length out₀) × (going (held .next) ≡ true → Ready held) × Story held buf out
 
 abbrev μ-loop : tie.MeasureT-loop
-μ-loop buf₀ out₀ held₀ meter₀ turns₀ buf out held meter turns = turns
+μ-loop buf₀ out₀ held₀ meter₀ buf out held meter = left held
+
+first-requires : tie.Need-first-requires Inv-loop μ-loop
+first-requires c κs = search needs
 
 loop-holds : tie.Need-loop-holds Inv-loop μ-loop
-loop-holds c = search needs
+loop-holds c =
+    let b = c .before .before .before .args in
+    (refl, refl, λ g. ready-first (c .first .ensures), story-first (b .buf .now) (b .out .now) (c .first .ensures))
+
+goes-requires : tie.Need-goes-requires Inv-loop μ-loop
+goes-requires c κs = search needs
 
 read-some-requires : tie.Need-read-some-requires Inv-loop μ-loop
-read-some-requires c κs = search needs
+read-some-requires c κs =
+    let went = c .before in
+    let l = went .before .before in
+    let b = l .before .before .before .before in
+    let on = sym (went .before .goes .ensures) ∙ went .if1 .taken in
+    omega (arith, l .loop .inv .2 on .small, l .loop .inv .0, b .pre .input)
 
 turn-requires : tie.Need-turn-requires Inv-loop μ-loop
-turn-requires c κs = search needs
+turn-requires c κs =
+    let read = c .before .before .before .before in
+    let went = read .before .before in
+    let l = went .before .before in
+    let b = l .before .before .before .before in
+    let on = sym (went .before .goes .ensures) ∙ went .if1 .taken in
+    record {
+      inside = read .read-some .ensures .inside;
+      number = l .loop .inv .2 on .number;
+      room = record {
+        input = omega (arith, read .read-some .kept .0, l .loop .inv .0, b .pre .input);
+        output = omega (arith, read .read-some .kept .0, l .loop .inv .0, l .loop .inv .1, b .pre .output);
+      };
+    }
 
 metered-requires : tie.Need-metered-requires Inv-loop μ-loop
 metered-requires c κs = search needs
 
-sub-turns : tie.Need-sub-turns Inv-loop μ-loop
-sub-turns c = search needs
-
 loop-less : tie.Need-loop-less Inv-loop μ-loop
-loop-less c = search needs
+loop-less c =
+    let t = c .before .before .before .before .before in
+    let went = t .before .before .before .before .before .before .before in
+    let l = went .before .before in
+    let on = sym (went .before .goes .ensures) ∙ went .if1 .taken in
+    falls (l .loop .held) (t .turn .result) on (l .loop .inv .2 on) (onward (l .loop .held) on (t .turn .ensures))
 
 loop-again : tie.Need-loop-again Inv-loop μ-loop
-loop-again c = search needs
-
-too-many-requires : tie.Need-too-many-requires Inv-loop μ-loop
-too-many-requires c κs = search needs
+loop-again c =
+    let t = c .before .before .before .before .before in
+    let read = t .before .before .before .before .before in
+    let went = read .before .before in
+    let l = went .before .before in
+    let on = sym (went .before .goes .ensures) ∙ went .if1 .taken in (
+      omega (arith, t .turn .kept .0, read .read-some .kept .0, l .loop .inv .0),
+      omega (arith, t .turn .kept .1 .1 .1 .0, l .loop .inv .1),
+      ready-on (l .loop .held) on (t .turn .ensures),
+      story-on (l .loop .held) on (t .turn .ensures) (l .loop .inv .3) (read .read-some .ensures .kept),
+    )
 
 same-length : tie.Need-same-length Inv-loop μ-loop
 same-length c = search needs
@@ -45,16 +83,9 @@ same-length-2 : tie.Need-same-length-2 Inv-loop μ-loop
 same-length-2 c = search needs
 
 returns : tie.Need-returns Inv-loop μ-loop
-returns c = search needs
-
-same-length-3 : tie.Need-same-length-3 Inv-loop μ-loop
-same-length-3 c = search needs
-
-same-length-4 : tie.Need-same-length-4 Inv-loop μ-loop
-same-length-4 c = search needs
-
-returns-2 : tie.Need-returns-2 Inv-loop μ-loop
-returns-2 c = search needs
+returns c =
+    let l = c .before .before in
+    record { over = sym (c .before .goes .ensures) ∙ c .if1 .left; story = l .loop .inv .3 }
 
 pub run-spec : {M : Type 1} → statement M
 run-spec =
@@ -62,17 +93,14 @@ run-spec =
     (tie.spec
     Inv-loop
     μ-loop
+    first-requires
     loop-holds
+    goes-requires
     read-some-requires
     turn-requires
     metered-requires
-    sub-turns
     loop-less
     loop-again
-    too-many-requires
     same-length
     same-length-2
-    returns
-    same-length-3
-    same-length-4
-    returns-2)
+    returns)

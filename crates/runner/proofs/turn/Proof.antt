@@ -1,28 +1,27 @@
--- What is kept at each end of a turn leaves room.
-use mathlib.Core.Path.{_≡_, sym}
+-- What is written is the turn's.
+use mathlib.Core.Path.{sym}
 use lib.Seq.{length-take-le}
-use native.Mathlib.Omega.{arith}
 use borrow.Author.Needs.{needs}
 use Rattle.runner.proofs.turn.Statement.{statement}
 use Rattle.runner.proofs.turn.Tie as tie
 
-done-requires : tie.Need-done-requires
-done-requires c κs = search needs
+take-in-requires : tie.Need-take-in-requires
+take-in-requires c κs = search needs
 
-returns : tie.Need-returns
-returns c = search needs
+written-requires : tie.Need-written-requires
+written-requires c κs = search needs
 
-slice-reshare-prefix-end : tie.Need-slice-reshare-prefix-end
-slice-reshare-prefix-end c = search needs
+slice-reshare-prefix-write-out : tie.Need-slice-reshare-prefix-write-out
+slice-reshare-prefix-write-out c = search needs
 
-slice-aggregate-end : tie.Need-slice-aggregate-end
-slice-aggregate-end c = sym (length-take-le _ _ (search needs))
+slice-aggregate-write-out : tie.Need-slice-aggregate-write-out
+slice-aggregate-write-out c = sym (length-take-le _ _ (search needs))
 
-end-requires : tie.Need-end-requires
-end-requires c κs = search needs
+write-out-requires : tie.Need-write-out-requires
+write-out-requires c κs = search needs
 
-done-requires-2 : tie.Need-done-requires-2
-done-requires-2 c κs = search needs
+wrote-requires : tie.Need-wrote-requires
+wrote-requires c κs = search needs
 
 same-length : tie.Need-same-length
 same-length c = search needs
@@ -30,39 +29,19 @@ same-length c = search needs
 same-length-2 : tie.Need-same-length-2
 same-length-2 c = search needs
 
-returns-2 : tie.Need-returns-2
-returns-2 c = search needs
-
-add-advance : tie.Need-add-advance
-add-advance c = search needs
-
-advance-requires : tie.Need-advance-requires
-advance-requires c κs = search needs
-
-same-length-3 : tie.Need-same-length-3
-same-length-3 c = search needs
-
-same-length-4 : tie.Need-same-length-4
-same-length-4 c = search needs
-
-returns-3 : tie.Need-returns-3
-returns-3 c = search needs
+returns : tie.Need-returns
+returns c = search needs
 
 pub turn-spec : {M : Type 1} → statement M
 turn-spec =
     tie.close
     (tie.spec
-    done-requires
-    returns
-    slice-reshare-prefix-end
-    slice-aggregate-end
-    end-requires
-    done-requires-2
+    take-in-requires
+    written-requires
+    slice-reshare-prefix-write-out
+    slice-aggregate-write-out
+    write-out-requires
+    wrote-requires
     same-length
     same-length-2
-    returns-2
-    add-advance
-    advance-requires
-    same-length-3
-    same-length-4
-    returns-3)
+    returns)

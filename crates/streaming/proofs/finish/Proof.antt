@@ -20,7 +20,10 @@ same-length : tie.Need-same-length
 same-length c = search needs
 
 returns-2 : tie.Need-returns-2
-returns-2 c = closes-written _ _ _ (c .before .before .before .before .before .closing-refusal .ensures) (c .before .before .before .before .if1 .left) (c .before .before .close .ensures)
+returns-2 c =
+    let put = c .before .before in
+    let asked = put .before .before in
+    closes-written _ _ _ (asked .before .closing-refusal .ensures) (asked .if1 .left) (put .close .ensures .0)
 
 pub finish-spec : {M : Type 1} → statement M
 finish-spec =

@@ -1,6 +1,5 @@
 -- The three tests, in their order.
 use Rattle.streaming.proofs.Turns.{going-stopped, going-full, going-count}
-use native.Mathlib.Omega.{arith}
 use borrow.Author.Needs.{needs}
 use Rattle.streaming.proofs.goes_on.Statement.{statement}
 use Rattle.streaming.proofs.goes_on.Tie as tie

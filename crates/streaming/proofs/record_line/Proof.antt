@@ -1,5 +1,4 @@
 -- The answer to the body, and its line.
-use mathlib.Core.Path.{_≡_}
 use Prim.Native.Nat.{_+_, _-_}
 use Rattle.streaming.proofs.Turns.{line-of}
 use native.Mathlib.Omega.{arith}

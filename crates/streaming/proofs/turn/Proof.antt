@@ -1,6 +1,5 @@
 -- Where it does not go on, and where there is no whole record, all stays; a whole record and an unknown kind write their lines.
-use mathlib.Core.Path.{_≡_, refl, sym, ap, _∙_}
-use mathlib.Core.Bool.{true, false}
+use mathlib.Core.Path.{refl, sym, _∙_}
 use borrow.Author.Tests.{not-true, not-false}
 use Rattle.records.proofs.Laws.{is-whole, is-unknown}
 use Rattle.streaming.proofs.Turns.{going-room, idle-turned, kept-turned, whole-turned, unknown-turned, found-item, found-at}
@@ -62,7 +61,7 @@ same-length-2 c = search needs
 returns-3 : tie.Need-returns-3
 returns-3 c =
     let f = found-item _ _ (c .before .before .before .before .before .before .before .take .ensures) (c .before .before .before .before .before .item2 .given .1) in
-    unknown-turned _ _ _ (c .before .before .before .before .before .before .before .before .before .before .before .before .before .pre) (sym (c .before .before .before .before .before .before .before .before .before .before .goes-on .ensures) ∙ not-false _ (c .before .before .before .before .before .before .before .before .before .if1 .left)) f (c .before .before .put-unknown .ensures .0) (omega (arith, going-room _ _ _ _ (sym (c .before .before .before .before .before .before .before .before .before .before .goes-on .ensures) ∙ not-false _ (c .before .before .before .before .before .before .before .before .before .if1 .left)) .1, c .before .before .put-unknown .ensures .1))
+    unknown-turned _ _ _ (c .before .before .before .before .before .before .before .before .before .before .before .before .before .pre) (sym (c .before .before .before .before .before .before .before .before .before .before .goes-on .ensures) ∙ not-false _ (c .before .before .before .before .before .before .before .before .before .if1 .left)) f (c .before .before .put-unknown .ensures .0) (c .before .before .put-unknown .ensures .1) (omega (arith, going-room _ _ _ _ (sym (c .before .before .before .before .before .before .before .before .before .before .goes-on .ensures) ∙ not-false _ (c .before .before .before .before .before .before .before .before .before .if1 .left)) .1, c .before .before .put-unknown .ensures .1))
 
 returns-4 : tie.Need-returns-4
 returns-4 c = kept-turned _ _ _ (c .before .before .before .before .before .before .before .before .pre) (found-item _ _ (c .before .before .take .ensures) (c .enum-told .given .1)) refl

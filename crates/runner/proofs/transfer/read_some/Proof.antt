@@ -1,15 +1,22 @@
-use mathlib.Core.Path.{_≡_}
-use lib.ListN.{length}
-use native.Mathlib.Omega.{arith}
+-- Each read leaves what is kept.
+use mathlib.Core.Path.{_≡_, _∙_}
+use lib.IntN.{negsuc}
+use lib.ListN.{length, take}
+use mir.Syntax.{w64}
+use mir.Val.{toZ, ofZ}
+use Rattle.runner.proofs.Loop.{front-stays, reads-behind}
 use borrow.Author.Needs.{needs}
 use Rattle.runner.proofs.transfer.read_some.Statement.{statement}
 use Rattle.runner.proofs.transfer.read_some.Tie as tie
 
 abbrev Inv-loop : tie.InvT-loop
-Inv-loop buf₀ fill tries₀ buf tries = length buf ≡ length buf₀
+Inv-loop buf₀ fill tries₀ buf tries = (length buf ≡ length buf₀) × (take fill buf ≡ take fill buf₀)
 
 abbrev μ-loop : tie.MeasureT-loop
 μ-loop buf₀ fill tries₀ buf tries = tries
+
+kept-requires : tie.Need-kept-requires Inv-loop μ-loop
+kept-requires c κs = search needs
 
 loop-holds : tie.Need-loop-holds Inv-loop μ-loop
 loop-holds c = search needs
@@ -26,35 +33,33 @@ part-read-end c = search needs
 read-requires : tie.Need-read-requires Inv-loop μ-loop
 read-requires c κs = search needs
 
-sub-count : tie.Need-sub-count Inv-loop μ-loop
-sub-count c = search needs
+sub-answered : tie.Need-sub-answered Inv-loop μ-loop
+sub-answered c = search needs
 
-part-count-start : tie.Need-part-count-start Inv-loop μ-loop
-part-count-start c = search needs
+answered-requires : tie.Need-answered-requires Inv-loop μ-loop
+answered-requires c κs = search needs
 
-part-count-end : tie.Need-part-count-end Inv-loop μ-loop
-part-count-end c = search needs
+failed-requires : tie.Need-failed-requires Inv-loop μ-loop
+failed-requires c κs = search needs
 
-count-requires : tie.Need-count-requires Inv-loop μ-loop
-count-requires c κs = search needs
+errno-requires : tie.Need-errno-requires Inv-loop μ-loop
+errno-requires c κs = search needs
+
+told-requires : tie.Need-told-requires Inv-loop μ-loop
+told-requires c κs = search needs
 
 same-length : tie.Need-same-length Inv-loop μ-loop
 same-length c = search needs
 
 returns : tie.Need-returns Inv-loop μ-loop
-returns c = search needs
-
-errno-requires : tie.Need-errno-requires Inv-loop μ-loop
-errno-requires c κs = search needs
-
-unread-requires : tie.Need-unread-requires Inv-loop μ-loop
-unread-requires c κs = search needs
-
-same-length-2 : tie.Need-same-length-2 Inv-loop μ-loop
-same-length-2 c = search needs
-
-returns-2 : tie.Need-returns-2 Inv-loop μ-loop
-returns-2 c = search needs
+returns c =
+    let asked = c .before .before .before in
+    let read = asked .before .before .before in
+    let l = read .before .before .before in
+    let k = l .before .kept in
+    let b = l .before .before .before in
+    reads-behind (b .args .held) (toZ w64 (ofZ w64 (read .read .result))) (k .ensures) (search needs) (c .told .ensures ∙ asked .answered .ensures)
+    (front-stays (k .result) (l .loop .buf) _ (search needs) ∙ l .loop .inv .1)
 
 sub-tries : tie.Need-sub-tries Inv-loop μ-loop
 sub-tries c = search needs
@@ -63,16 +68,25 @@ loop-less : tie.Need-loop-less Inv-loop μ-loop
 loop-less c = search needs
 
 loop-again : tie.Need-loop-again Inv-loop μ-loop
-loop-again c = search needs
+loop-again c =
+    let l = c .before .before .before .before .before .before .before .before .before .before in
+    (search needs, front-stays (l .before .kept .result) (l .loop .buf) _ (search needs) ∙ l .loop .inv .1)
 
-unread-requires-2 : tie.Need-unread-requires-2 Inv-loop μ-loop
-unread-requires-2 c κs = search needs
+answered-requires-2 : tie.Need-answered-requires-2 Inv-loop μ-loop
+answered-requires-2 c κs = search needs
 
-same-length-3 : tie.Need-same-length-3 Inv-loop μ-loop
-same-length-3 c = search needs
+told-requires-2 : tie.Need-told-requires-2 Inv-loop μ-loop
+told-requires-2 c κs = search needs
 
-returns-3 : tie.Need-returns-3 Inv-loop μ-loop
-returns-3 c = search needs
+same-length-2 : tie.Need-same-length-2 Inv-loop μ-loop
+same-length-2 c = search needs
+
+returns-2 : tie.Need-returns-2 Inv-loop μ-loop
+returns-2 c =
+    let asked = c .before in
+    let l = asked .before .before in
+    let b = l .before .before .before in
+    reads-behind (b .args .held) (negsuc 0) (l .before .kept .ensures) (search needs) (c .told2 .ensures ∙ asked .answered2 .ensures) (l .loop .inv .1)
 
 pub read-some-spec : {M : Type 1} → statement M
 read-some-spec =
@@ -80,24 +94,23 @@ read-some-spec =
     (tie.spec
     Inv-loop
     μ-loop
+    kept-requires
     loop-holds
     sub-read
     part-read-start
     part-read-end
     read-requires
-    sub-count
-    part-count-start
-    part-count-end
-    count-requires
+    sub-answered
+    answered-requires
+    failed-requires
+    errno-requires
+    told-requires
     same-length
     returns
-    errno-requires
-    unread-requires
-    same-length-2
-    returns-2
     sub-tries
     loop-less
     loop-again
-    unread-requires-2
-    same-length-3
-    returns-3)
+    answered-requires-2
+    told-requires-2
+    same-length-2
+    returns-2)

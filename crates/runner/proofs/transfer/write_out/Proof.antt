@@ -1,6 +1,5 @@
 use Prim.Native.Nat.{_≤_, _-_}
 use lib.ListN.{length}
-use native.Mathlib.Omega.{arith}
 use borrow.Author.Needs.{needs}
 use Rattle.runner.proofs.transfer.write_out.Statement.{statement}
 use Rattle.runner.proofs.transfer.write_out.Tie as tie

@@ -1,4 +1,3 @@
-use native.Mathlib.Omega.{arith}
 use borrow.Author.Needs.{needs}
 use Rattle.runner.proofs.transfer.write_some.Statement.{statement}
 use Rattle.runner.proofs.transfer.write_some.Tie as tie

@@ -1,7 +1,7 @@
 -- A step, and what it did not take moved to the front.
-use mathlib.Core.Path.{_≡_, sym, ap, _∙_}
+use mathlib.Core.Path.{sym, ap, _∙_}
 use Prim.Native.Nat.{ℕ, _-_}
-use lib.ListN.{length, take}
+use lib.ListN.{take}
 use lib.Seq.{length-take-le}
 use Rattle.streaming.proofs.Keeping.{taken-in, advanced}
 use native.Mathlib.Omega.{arith}
@@ -32,11 +32,15 @@ same-length-2 c = search needs
 
 returns : tie.Need-returns
 returns c =
-    let a = c .before .before .before .before .before .before .before .before .before .before .before .args in
+    let kept = c .before .before in
+    let stepped = kept .before .before .before .before in
+    let a = stepped .before .before .before .before .before .args in
+    let bytes = take (a .fill) (a .buf .now) in
     let m = length-take-le (a .fill) (a .buf .now) (search needs) in
-    advanced (take (a .fill) (a .buf .now)) (a .count) (a .out .now) (c .before .before .before .before .before .before .step .ensures)
-    (c .before .before .keep .last .0) (c .before .before .before .before .before .before .step .kept .1 .1 .0) (omega (arith, c .before .before .keep .ensures .0, m))
-    (ap (λ (n : ℕ). take (n - c .before .before .before .before .before .before .step .result .taken) (c .before .before .keep .last .0)) m ∙ c .before .before .keep .ensures .1)
+    let from = stepped .step .result .taken in
+    advanced bytes (a .count) (a .out .now) (stepped .step .ensures) (kept .keep .last .0) (omega (arith, kept .keep .ensures .0, m))
+    (ap (λ (n : ℕ). take (n - from) (kept .keep .last .0)) m ∙ kept .keep .ensures .1)
+    (stepped .step .kept .1 .1 .0)
 
 pub advance-spec : {M : Type 1} → statement M
 advance-spec =

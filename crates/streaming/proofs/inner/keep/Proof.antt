@@ -1,6 +1,5 @@
 -- The entries before i are moved, and those from `at` + i on are as they were.
 use mathlib.Core.Path.{_≡_, refl, ap, sym, _∙_}
-use mathlib.Core.List.{List}
 use Prim.Native.Nat.{ℕ, _≤_, _-_, _+_}
 use lib.ListN.{length, take, drop, length-set}
 use Rattle.streaming.proofs.Keeping.{part, keep-front, keep-rest}

@@ -3,8 +3,8 @@ use Rattle.lines.proofs.Placing.{put-none}
 use Rattle.streaming.proofs.Closing.{short-put}
 use native.Mathlib.Omega.{arith}
 use borrow.Author.Needs.{needs}
-use Rattle.streaming.proofs.put_cut.Statement.{statement}
-use Rattle.streaming.proofs.put_cut.Tie as tie
+use Rattle.streaming.proofs.inner.put_cut.Statement.{statement}
+use Rattle.streaming.proofs.inner.put_cut.Tie as tie
 
 enum-known-item : tie.Need-enum-known-item
 enum-known-item c = search needs
@@ -28,16 +28,19 @@ same-length : tie.Need-same-length
 same-length c = search needs
 
 returns : tie.Need-returns
-returns c = short-put (c .before .before .before .before .before .before .before .before .args .count) (c .before .before .before .before .before .item .given .1) (c .before .before .put-short .ensures .0) (omega (arith, c .before .before .put-short .ensures .1))
+returns c =
+    let put = c .before .before in
+    let b = put .before .before .before .before .before .before in
+    short-put (b .args .count) (b .args .at) (put .before .before .before .item .given .1) (put .put-short .ensures .0) (omega (arith, put .put-short .ensures .1))
 
 returns-2 : tie.Need-returns-2
-returns-2 c = short-put (c .before .before .before .args .count) (c .enum-told .given .1) (put-none 0 _) (omega arith)
+returns-2 c = short-put _ _ (c .enum-told .given .1) (put-none _ _) (omega arith)
 
 returns-3 : tie.Need-returns-3
-returns-3 c = short-put (c .before .before .before .args .count) (c .enum-told2 .given .1) (put-none 0 _) (omega arith)
+returns-3 c = short-put _ _ (c .enum-told2 .given .1) (put-none _ _) (omega arith)
 
 returns-4 : tie.Need-returns-4
-returns-4 c = short-put (c .before .before .before .args .count) (c .enum-told3 .given .1) (put-none 0 _) (omega arith)
+returns-4 c = short-put _ _ (c .enum-told3 .given .1) (put-none _ _) (omega arith)
 
 pub put-cut-spec : {M : Type 1} → statement M
 put-cut-spec =

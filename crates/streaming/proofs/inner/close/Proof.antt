@@ -2,8 +2,8 @@
 use Rattle.streaming.proofs.Closing.{closing-put}
 use native.Mathlib.Omega.{arith}
 use borrow.Author.Needs.{needs}
-use Rattle.streaming.proofs.close.Statement.{statement}
-use Rattle.streaming.proofs.close.Tie as tie
+use Rattle.streaming.proofs.inner.close.Statement.{statement}
+use Rattle.streaming.proofs.inner.close.Tie as tie
 
 take-requires : tie.Need-take-requires
 take-requires c κs = search needs
@@ -18,7 +18,12 @@ same-length : tie.Need-same-length
 same-length c = search needs
 
 returns : tie.Need-returns
-returns c = closing-put _ _ (c .before .before .before .before .before .before .before .before .take .ensures) (c .before .before .before .before .before .before .put-cut .ensures .0) (c .before .before .put-end .ensures .0)
+returns c =
+    let ended = c .before .before in
+    let cut = ended .before .before .before .before in
+    let taken = cut .before .before in
+    let b = taken .before .before .before in
+    (closing-put _ _ (b .args .at) (omega (arith, b .pre .1)) (taken .take .ensures) (cut .put-cut .ensures .0) (ended .put-end .ensures .0), omega (arith, b .pre .1, cut .put-cut .ensures .1, cut .put-cut .kept, ended .put-end .ensures .1, ended .put-end .kept))
 
 pub close-spec : {M : Type 1} → statement M
 close-spec =

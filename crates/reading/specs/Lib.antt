@@ -1,0 +1,4 @@
+pub mod Answers
+pub mod Turns
+pub mod Reading
+pub mod Parts
