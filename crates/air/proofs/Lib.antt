@@ -1,4 +1,8 @@
 pub mod Sums
 pub mod Symbols
 pub mod Passing
-pub mod Steady
+pub mod Channel
+pub mod Route
+pub mod Pieces
+pub mod Hard
+pub mod Answers

@@ -7,11 +7,7 @@ use native.Mathlib.Omega.{arith}
 use lib.ListN.{length, getD}
 use Rattle.base.specs.Places.{Apart, Within}
 use Rattle.trellis.specs.Nearest.{distance}
-
--- f 0 + f 1 + .. + f (n - 1)
-abbrev pub sum : (ℕ → ℕ) → ℕ → ℕ
-sum f zero = 0
-sum f (suc n) = f 0 + sum (λ i. f (suc i)) n
+use Rattle.air.specs.Channel.{sum}
 
 pub sum-same : (f g : ℕ → ℕ) (n : ℕ) → ((i : ℕ) → i < n → f i ≡ g i) → sum f n ≡ sum g n
 sum-same f g zero h = refl
@@ -21,6 +17,14 @@ sum-same f g (suc n) h =
 pub sum-zero : (f : ℕ → ℕ) (n : ℕ) → ((i : ℕ) → i < n → f i ≡ 0) → sum f n ≡ 0
 sum-zero f zero h = refl
 sum-zero f (suc n) h = omega (arith, h 0 (omega arith), sum-zero (λ i. f (suc i)) n (λ i k. h (suc i) (omega arith)))
+
+pub sum-le : (f g : ℕ → ℕ) (n : ℕ) → ((i : ℕ) → i < n → f i ≤ g i) → sum f n ≤ sum g n
+sum-le f g zero h = omega arith
+sum-le f g (suc n) h = omega (arith, h 0 (omega arith), sum-le (λ i. f (suc i)) (λ i. g (suc i)) n (λ i k. h (suc i) (omega arith)))
+
+pub sum-add : (f g : ℕ → ℕ) (n : ℕ) → sum (λ i. f i + g i) n ≡ sum f n + sum g n
+sum-add f g zero = refl
+sum-add f g (suc n) = omega (arith, sum-add (λ i. f (suc i)) (λ i. g (suc i)) n)
 
 -- a distance is the sum over the places of what was sent
 pub distance-sum : {A : Type 0} (m : A → ℕ → ℕ) (d : A) (rs : List A) (ys : List ℕ) → length ys ≤ length rs

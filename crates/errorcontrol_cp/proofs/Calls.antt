@@ -15,6 +15,7 @@ use Rattle.base.proofs.BitLaws.{bits-only-yes, bits-only-bits}
 use Rattle.base.proofs.Lists.{written-whole}
 use Rattle.base.proofs.Moves.{gather-length, scatter-length, scatter-over}
 use Rattle.trellis.specs.Nearest.{encode}
+use Rattle.trellis.proofs.Words.{zeros-bits}
 use Rattle.convenc.specs.Generators.{control, outputs, held, encodeRefusal}
 use Rattle.convenc.specs.Puncturing.{keptPlace, needed, punctureRefusal, depunctureRefusal, punctured, depunctured}
 use Rattle.convenc.proofs.Encoding.{encoded-length}
@@ -25,7 +26,7 @@ use Rattle.scrambler.specs.Scrambling.{sendRefusal, scrambled, descrambled}
 use Rattle.scrambler.proofs.Blocks.{descrambled-length}
 use Rattle.air.proofs.Passing.{gather-bits, scatter-bits}
 use Rattle.errorcontrol_cp.specs.Sending.{MODE, wordOf}
-use Rattle.errorcontrol_cp.proofs.Words.{word-length, word-bits, zeros-bits}
+use Rattle.errorcontrol_cp.proofs.Words.{word-length, word-bits}
 
 -- where nothing is refused, what was made
 unless-none : {A : Type 0} (number : ℕ) (made kept : A) → number ≡ accepted → unless number made kept ≡ made

@@ -1,42 +1,44 @@
--- Demand 3 on the air: the decoded word is the one whose sending is nearest to what was received, and it stays
--- where symbols turn into what it sends.
+-- Demand 3 for a control block, over what `decode_cp` answers and writes.
 -- Assumes nothing.
-use mathlib.Core.Path.{_≡_, refl, sym, ap, _∙_, subst}
+use mathlib.Core.Path.{_≡_, sym, ap, _∙_}
 use mathlib.Core.List.{List}
-use mathlib.Core.Bool.{Bool, true, false}
-use mathlib.Core.Logic.{_⊎_, inl, inr}
+use mathlib.Core.Bool.{true}
 use Prim.Native.Nat.{ℕ, _+_, _*_, _%_, _≤_, _<_}
 use native.Mathlib.Omega.{arith}
-use lib.Dec.{eqb}
-use borrow.Author.Tests.{eqb-true, eqb-false}
-use lib.ListN.{length, take, drop, getD, set, replicate, length-replicate, length-set}
-use lib.Seq.{take-all, length-take-le, getD-take, getD-set-same, getD-set-other}
-use Rattle.base.specs.Bits.{Bits, ERASED, disagrees, known}
-use Rattle.base.specs.Places.{tabulate}
-use Rattle.base.proofs.Moves.{scatter-length}
-use Rattle.trellis.specs.Nearest.{encode, distance, total, nearest}
-use Rattle.trellis.proofs.Encoding.{distance-most}
-use Rattle.trellis.proofs.Winners.{nearest-same, nearest-length, nearest-bits}
+use lib.ListN.{length, take, drop, getD, replicate, length-replicate, getD-replicate}
+use lib.Seq.{length-take-le, getD-take}
+use Rattle.base.specs.declared.Counts.{Counts}
+use Rattle.base.specs.Bits.{Bits, ERASED, disagrees}
+use Rattle.base.specs.Places.{written}
+use Rattle.base.specs.Refusal.{unless}
+use Rattle.base.proofs.BitLaws.{bits-at}
+use Rattle.base.proofs.Moves.{scatter-length, scatter-hit, scatter-miss, gather-at}
+use Rattle.trellis.specs.Nearest.{encode}
+use Rattle.trellis.proofs.Winners.{nearest-length, nearest-bits}
 use Rattle.convenc.specs.Generators.{control, outputs}
-use Rattle.convenc.specs.Puncturing.{keptPlace, depunctured}
-use Rattle.convenc.proofs.Encoding.{encoded-bits, encoded-length}
+use Rattle.convenc.specs.Puncturing.{keptPlace}
+use Rattle.convenc.proofs.Encoding.{encoded-bits}
 use Rattle.interleaver.specs.Interleaving.{place, interleaved, deinterleaved}
-use Rattle.scrambler.specs.Scrambling.{output, scrambled, descrambled, descrambledSymbol}
+use Rattle.scrambler.specs.Scrambling.{output, descrambled, descrambledSymbol}
 use Rattle.scrambler.proofs.Outputs.{output-lt}
-use Rattle.scrambler.proofs.Blocks.{scrambled-length, scrambled-bits, symbol-disagrees}
+use Rattle.scrambler.proofs.Blocks.{scrambled-length, scrambled-at, scrambled-bits, descrambled-at, symbol-disagrees}
 use Rattle.crc16.specs.Crc.{check}
-use Rattle.viterbi.proofs.Counts.{each-known}
-use Rattle.viterbi.specs.Decoding.{decoded, disagreements}
-use Rattle.air.specs.Filling.{Filled}
-use Rattle.air.proofs.Symbols.{disagrees-erased, disagrees-filled}
-use Rattle.air.proofs.Passing.{distance-received}
-use Rattle.air.proofs.Steady.{steady, toward-filled}
+use Rattle.viterbi.specs.Decoding.{disagreements}
+use Rattle.viterbi.specs.Hearing.{motherCode}
+use Rattle.viterbi.proofs.Promises.{mother-weighs}
+use Rattle.air.specs.Demand.{HeardRight, itself}
+use Rattle.air.proofs.Answers.{received-accepted}
+use Rattle.air.proofs.Channel.{Weighs, Lawful, Decoder, heard-right}
+use Rattle.air.proofs.Hard.{Any, hard-lawful}
+use Rattle.air.proofs.Route.{Route, route-distance}
 use Rattle.errorcontrol_cp.specs.Kinds.{isKind, dataBits, wordBits, airSymbols, interleaverStep}
 use Rattle.errorcontrol_cp.specs.Sending.{MODE, coded, sent}
-use Rattle.errorcontrol_cp.specs.Receiving.{heard, mother, wordFrom, disagreementsOf, good}
+use Rattle.errorcontrol_cp.specs.Receiving.{heard, mother, wordFrom, disagreementsOf, countsOf, good, receiveRefusal}
+use Rattle.errorcontrol_cp.specs.Hearing.{controlChannel, Unrefused}
 use Rattle.errorcontrol_cp.proofs.Rows.{row}
-use Rattle.errorcontrol_cp.proofs.Words.{zeros-bits, good-check}
-use Rattle.errorcontrol_cp.proofs.Ground.{ground}
+use Rattle.errorcontrol_cp.proofs.Words.{good-check}
+use Rattle.errorcontrol_cp.proofs.Refusals.{ReceiveAccepted, receive-accepts}
+use Rattle.errorcontrol_cp.proofs.Ground.{Ground, ground}
 
 -- ---- what is sent
 -- the coded symbols at their air places, not yet scrambled
@@ -56,6 +58,11 @@ pub sent-length : (kind start : ℕ) (w : List ℕ) → length (sent kind start 
 unfolding sent
 sent-length kind start w = scrambled-length start (moved kind w) ∙ moved-length kind w
 
+pub lawful : (kind start : ℕ) → Lawful (controlChannel kind start) Any
+lawful kind start =
+    hard-lawful (wordBits kind) (airSymbols kind) (place (airSymbols kind) (interleaverStep kind)) (λ w x. getD (sent kind start w) x 0) (λ (air : List ℕ) x. getD air x 0)
+    (λ w j h. bits-at (sent kind start w) (sent-bits kind start w) (place (airSymbols kind) (interleaverStep kind) j))
+
 -- ---- what is received
 pub mother-length : (kind start : ℕ) (air : List ℕ) → length (mother kind start air) ≡ 4 * wordBits kind
 unfolding mother
@@ -65,21 +72,23 @@ mother-length kind start air =
     ∙ length-replicate (4 * wordBits kind) ERASED
 
 module _ (kind : ℕ) (valid : isKind kind ≡ true) (start : ℕ) (air : List ℕ) (enough : airSymbols kind ≤ length air) where
-  pub heard-length : length (heard kind air) ≡ airSymbols kind
-  heard-length = length-take-le (airSymbols kind) air enough
-
-  -- the distance that the decoder sees is the distance on the air
-  pub same-distance : (w : List ℕ) → length w ≡ wordBits kind
-      → disagreements control (wordBits kind) (mother kind start air) w ≡ distance disagrees (heard kind air) (sent kind start w)
+  -- from the decoder's symbols to the air: what puncturing keeps, and where interleaving moves it
+  pub route : Route (motherCode control (wordBits kind)) (controlChannel kind start) (keptPlace MODE)
+      (λ r j. descrambledSymbol r (output start (place (airSymbols kind) (interleaverStep kind) j))) (mother kind start air) air
   unfolding mother sent coded
-  same-distance w l =
-      ap (λ (r : List ℕ). distance disagrees r e) (take-all (4 * wordBits kind) (mother kind start air) (omega (arith, mother-length kind start air)))
-      ∙ ap (λ (d : ℕ). distance disagrees (depunctured MODE k (deinterleaved k a (tabulate (λ i. descrambledSymbol (getD (heard kind air) i 0) (output start i)) d)) blank) e) heard-length
-      ∙ distance-received disagrees ERASED disagrees-erased (λ r i. descrambledSymbol r (output start i)) (λ y i. (y + output start i) % 2)
-      (λ i r y h. symbol-disagrees r y (output start i) h (output-lt start i)) (keptPlace MODE) (place k a) k (4 * wordBits kind) (heard kind air) e (replicate k 0)
-      (ground kind valid .kept-apart) (λ i h. omega (arith, ground kind valid .kept-within i h, wide)) (omega (arith, wide)) (ground kind valid .moved-apart) (ground kind valid .moved-within) (ground kind valid .moved-onto)
-      (omega (arith, heard-length)) (encoded-bits control 0 w) (zeros-bits k) (length-replicate k 0)
-      ∙ ap (λ (d : ℕ). distance disagrees (heard kind air) (tabulate (λ i. (getD (moved kind w) i 0 + output start i) % 2) d)) (sym (moved-length kind w))
+  route =
+      record {
+        apart = g .kept-apart;
+        within = g .kept-within;
+        given = λ j h. scatter-hit (keptPlace MODE) k fetched blank (g .kept-apart) (λ i p. omega (arith, g .kept-within i p, length-replicate (4 * wordBits kind) ERASED)) j h
+            ∙ gather-at (place k a) k (descrambled start (heard kind air)) j h
+            ∙ descrambled-at start (heard kind air) (place k a j) (omega (arith, g .moved-within j h, length-take-le k air enough))
+            ∙ ap (λ (r : ℕ). descrambledSymbol r (output start (place k a j))) (getD-take k air (place k a j) 0 (g .moved-within j h));
+        undone = λ w e j h r. symbol-disagrees r (getD (encode (outputs control) 0 w) (keptPlace MODE j) 0) (output start (place k a j))
+            (bits-at (encode (outputs control) 0 w) (encoded-bits control 0 w) (keptPlace MODE j)) (output-lt start (place k a j))
+            ∙ ap (disagrees r) (sym (sent-at w j h));
+        missed = λ x h f y. ap (λ (s : ℕ). disagrees s y) (scatter-miss (keptPlace MODE) k fetched blank x f ∙ getD-replicate (4 * wordBits kind) x ERASED 0 h);
+      }
     where
       k : ℕ
       k = airSymbols kind
@@ -87,33 +96,25 @@ module _ (kind : ℕ) (valid : isKind kind ≡ true) (start : ℕ) (air : List �
       a : ℕ
       a = interleaverStep kind
 
-      e : List ℕ
-      e = encode (outputs control) 0 w
+      g : Ground kind
+      g = ground kind valid
 
       blank : List ℕ
       blank = replicate (4 * wordBits kind) ERASED
 
-      wide : length e ≡ 4 * wordBits kind
-      wide = encoded-length control 0 w ∙ ap (λ (n : ℕ). 4 * n) l
+      fetched : List ℕ
+      fetched = deinterleaved k a (descrambled start (heard kind air))
 
-  -- the decoded word is the one whose sending is nearest to what was received
-  pub nearest-on-air : wordFrom kind start air ≡ nearest (λ w. distance disagrees (heard kind air) (sent kind start w)) (wordBits kind)
-  unfolding wordFrom
-  nearest-on-air =
-      nearest-same (disagreements control (wordBits kind) (mother kind start air)) (λ w. distance disagrees (heard kind air) (sent kind start w)) (wordBits kind)
-      (λ v c. same-distance v (c .len))
+      sent-at : (w : List ℕ) (j : ℕ) → j < k → getD (sent kind start w) (place k a j) 0 ≡ (getD (encode (outputs control) 0 w) (keptPlace MODE j) 0 + output start (place k a j)) % 2
+      sent-at w j h =
+          scrambled-at start (moved kind w) (place k a j) (omega (arith, moved-length kind w, g .moved-within j h))
+          ∙ ap (λ (y : ℕ). (y + output start (place k a j)) % 2)
+          (scatter-hit (place k a) k (coded kind w) (replicate k 0) (g .moved-apart) (λ i p. omega (arith, g .moved-within i p, length-replicate {A = ℕ} k 0)) j h
+          ∙ gather-at (keptPlace MODE) k (encode (outputs control) 0 w) j h)
 
-  -- and the disagreements are those of the received symbols with what it sends
-  pub disagreements-on-air : disagreementsOf kind start air ≡ distance disagrees (heard kind air) (sent kind start (wordFrom kind start air))
-  unfolding wordFrom disagreementsOf
-  disagreements-on-air =
-      same-distance (wordFrom kind start air) (nearest-length (disagreements control (wordBits kind) (mother kind start air)) (wordBits kind))
-
-  -- no more than the received symbols that are bits
-  pub count-on-air : disagreementsOf kind start air ≤ total known (heard kind air)
-  count-on-air =
-      subst (λ (x : ℕ). x ≤ total known (heard kind air)) (sym disagreements-on-air)
-      (distance-most disagrees known (heard kind air) (sent kind start (wordFrom kind start air)) (each-known (heard kind air)) (sent-bits kind start (wordFrom kind start air)))
+  pub weighs : Weighs (controlChannel kind start) air (disagreements control (wordBits kind) (mother kind start air))
+  weighs w e =
+      mother-weighs control (wordBits kind) (mother kind start air) (omega (arith, mother-length kind start air)) w e ∙ route-distance route w e
 
   -- Good says that the decoded check is the check of the decoded data; `check-good` is the other way
   pub good-on-air : good kind (wordFrom kind start air) ≡ true
@@ -123,38 +124,35 @@ module _ (kind : ℕ) (valid : isKind kind ≡ true) (start : ℕ) (air : List �
       good-check kind (wordFrom kind start air) (nearest-bits (disagreements control (wordBits kind) (mother kind start air)) (wordBits kind))
       (omega (arith, nearest-length (disagreements control (wordBits kind) (mother kind start air)) (wordBits kind), row kind valid .word))
 
--- symbols that turn into what the decoded word sends in their places leave the word
-pub filled-on-air : (kind : ℕ) → isKind kind ≡ true → (start : ℕ) (air other : List ℕ) → airSymbols kind ≤ length air → airSymbols kind ≤ length other
-    → Filled (heard kind air) (heard kind other) (sent kind start (wordFrom kind start air))
-    → wordFrom kind start other ≡ wordFrom kind start air
-filled-on-air kind valid start air other h l f =
-    nearest-on-air kind valid start other l
-    ∙ steady disagrees (sent kind start) (wordBits kind) (airSymbols kind) (λ v c. sent-bits kind start v) (λ v c. sent-length kind start v)
-    (heard kind air) (heard kind other)
-    (toward-filled disagrees disagrees-filled (heard kind air) (heard kind other) (sent kind start far)
-    (heard-length kind valid start air h ∙ sym (sent-length kind start far)) (heard-length kind valid start other l ∙ sym (sent-length kind start far))
-    (sent-bits kind start far) (subst (λ (w : List ℕ). Filled (heard kind air) (heard kind other) (sent kind start w)) (nearest-on-air kind valid start air h) f))
-    ∙ sym (nearest-on-air kind valid start air h)
-  where
-    far : List ℕ
-    far = nearest (λ w. distance disagrees (heard kind air) (sent kind start w)) (wordBits kind)
+-- ---- demand 3
+module _ {kind start : ℕ} {air : List ℕ} {count : ℕ} {word word′ : List ℕ} (u : Unrefused kind start air count word word′) where
+  -- the number that was not given
+  abbrev refusal : ℕ
+  refusal = receiveRefusal kind (length air) (length word) (length (u .trellis))
 
--- so does one symbol that turns
-pub turned-on-air : (kind : ℕ) → isKind kind ≡ true → (start : ℕ) (air : List ℕ) (x : ℕ) → airSymbols kind ≤ length air → x < airSymbols kind
-    → wordFrom kind start (set air x (getD (sent kind start (wordFrom kind start air)) x 0)) ≡ wordFrom kind start air
-turned-on-air kind valid start air x h l =
-    filled-on-air kind valid start air (set air x y) h (omega (arith, length-set air x y)) (λ z p. at z (omega (arith, p, sent-length kind start w)) (eqb z x) refl)
-  where
-    w : List ℕ
-    w = wordFrom kind start air
+  unrefused : (refusal ≡ 0) × (u .counts ≡ countsOf kind start air)
+  unrefused = received-accepted refusal (u .good) (good kind (wordFrom kind start air)) (u .counts) (countsOf kind start air) (u .call .answered)
 
-    y : ℕ
-    y = getD (sent kind start w) x 0
+  pub accepts : ReceiveAccepted kind (length air) (length word) (length (u .trellis))
+  accepts = receive-accepts kind (length air) (length word) (length (u .trellis)) (unrefused .0)
 
-    at : (z : ℕ) → z < airSymbols kind → (t : Bool) → eqb z x ≡ t
-        → (getD (heard kind (set air x y)) z 0 ≡ getD (heard kind air) z 0) ⊎ (getD (heard kind (set air x y)) z 0 ≡ getD (sent kind start w) z 0)
-    at z p true e =
-        inr (getD-take (airSymbols kind) (set air x y) z 0 p ∙ ap (λ (i : ℕ). getD (set air x y) i 0) (eqb-true z x e)
-        ∙ getD-set-same air x y 0 (omega arith) ∙ ap (λ (i : ℕ). getD (sent kind start w) i 0) (sym (eqb-true z x e)))
-    at z p false e =
-        inl (getD-take (airSymbols kind) (set air x y) z 0 p ∙ getD-set-other air x z y 0 (eqb-false z x e) ∙ sym (getD-take (airSymbols kind) air z 0 p))
+  pub writes-word : word′ ≡ written (wordFrom kind start air) word
+  writes-word = u .call .target ∙ ap (λ (n : ℕ). unless n (written (wordFrom kind start air) word) word) (unrefused .0)
+
+  pub counts-word : count ≡ disagreementsOf kind start air
+  counts-word = u .counted ∙ ap (λ (c : Counts). c .disagreements) (unrefused .1)
+
+decoder : (kind start : ℕ) → Decoder (controlChannel kind start) Any (Unrefused kind start) itself (λ air. disagreements control (wordBits kind) (mother kind start air))
+unfolding wordFrom disagreementsOf
+decoder kind start =
+    record {
+      lawful = lawful kind start;
+      fits = λ air count word word′ u j h. tt;
+      weighs = λ air count word word′ u. weighs kind (accepts u .known) start air (accepts u .long);
+      writes = λ air count word word′ u. writes-word u;
+      counts = λ air count word word′ u. counts-word u;
+    }
+
+pub decode-cp-right : (kind start : ℕ) (air : List ℕ) (count : ℕ) (word word′ : List ℕ) → Unrefused kind start air count word word′
+    → HeardRight (controlChannel kind start) (Unrefused kind start) itself air count word word′
+decode-cp-right kind start = heard-right (decoder kind start)

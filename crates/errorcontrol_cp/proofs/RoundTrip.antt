@@ -1,90 +1,66 @@
 -- What is sent and received undamaged comes back: the word is the data's, nothing disagrees, and the check agrees.
 -- Assumes nothing.
-use mathlib.Core.Path.{_≡_, refl, sym, ap, ap₂, _∙_, subst}
+use mathlib.Core.Path.{_≡_, sym, ap, ap₂, _∙_}
 use mathlib.Core.List.{List}
 use mathlib.Core.Bool.{Bool, true}
-use Prim.Native.Nat.{ℕ, zero, suc, _*_, _≤_, _<_}
+use Prim.Native.Nat.{ℕ, _*_, _≤_, _<_}
 use native.Mathlib.Omega.{arith}
-use lib.ListN.{length, take, drop, getD, replicate, length-replicate}
-use lib.Seq.{take-at, length-take-le}
+use lib.ListN.{length, take, drop, getD}
+use lib.Seq.{take-at, length-take-le, getD-take}
 use Rattle.base.specs.declared.Outcome.the-variants.{Done}
 use Rattle.base.specs.declared.Received.{Received}
 use Rattle.base.specs.declared.Received.the-variants.{Good}
-use Rattle.base.specs.Refusal.{outcome, unless, reception}
-use Rattle.base.specs.Bits.{ERASED, disagrees}
-use Rattle.base.specs.Places.{tabulate, written}
+use Rattle.base.specs.Refusal.{unless, reception}
+use Rattle.base.specs.Places.{written}
 use Rattle.base.proofs.BitLaws.{bits-at, bits-only-bits}
 use Rattle.base.proofs.Lists.{written-length}
-use Rattle.trellis.specs.Nearest.{distance, Candidate}
-use Rattle.crc16.specs.Crc.{check}
+use Rattle.trellis.specs.Nearest.{Candidate}
 use Rattle.convenc.specs.Generators.{control}
-use Rattle.convenc.specs.Puncturing.{keptPlace, depunctured}
-use Rattle.interleaver.specs.Interleaving.{place, deinterleaved}
-use Rattle.scrambler.specs.Scrambling.{output, descrambledSymbol}
+use Rattle.interleaver.specs.Interleaving.{place}
+use Rattle.scrambler.specs.Scrambling.{output}
 use Rattle.scrambler.proofs.Outputs.{output-lt}
 use Rattle.scrambler.proofs.Blocks.{symbol-bit}
 use Rattle.viterbi.specs.Decoding.{disagreements}
 use Rattle.viterbi.proofs.Promises.{decoded-undamaged}
-use Rattle.air.proofs.Symbols.{disagrees-self}
-use Rattle.air.proofs.Passing.{distance-self, received-at}
+use Rattle.air.specs.Channel.{Undamaged}
+use Rattle.air.proofs.Answers.{done-accepted}
+use Rattle.air.proofs.Channel.{undamaged-free}
+use Rattle.air.proofs.Hard.{Any}
+use Rattle.air.proofs.Route.{route-known}
 use Rattle.errorcontrol_cp.specs.Kinds.{isKind, dataBits, wordBits, airSymbols, interleaverStep}
-use Rattle.errorcontrol_cp.specs.Sending.{MODE, wordOf, sent, sendRefusal, Sends}
+use Rattle.errorcontrol_cp.specs.Sending.{wordOf, sent, sendRefusal, Sends}
 use Rattle.errorcontrol_cp.specs.Receiving.{heard, mother, wordFrom, disagreementsOf, countsOf, good, receiveRefusal, Receives}
+use Rattle.errorcontrol_cp.specs.Hearing.{controlChannel}
 use Rattle.errorcontrol_cp.proofs.Rows.{row}
 use Rattle.errorcontrol_cp.proofs.Refusals.{SendAccepted, send-accepts, receive-none}
 use Rattle.errorcontrol_cp.proofs.Words.{word-candidate, word-good}
 use Rattle.errorcontrol_cp.proofs.Ground.{ground}
-use Rattle.errorcontrol_cp.proofs.OnAir.{heard-length, mother-length, sent-bits, sent-length, same-distance}
+use Rattle.errorcontrol_cp.proofs.OnAir.{mother-length, sent-length, sent-bits, lawful, route, weighs}
 
 module _ (kind : ℕ) (known : isKind kind ≡ true) (start : ℕ) (w air : List ℕ) (candidate : Candidate (wordBits kind) w)
-    (enough : airSymbols kind ≤ length air) (undamaged-air : heard kind air ≡ sent kind start w) where
+    (enough : airSymbols kind ≤ length air) (clean : Undamaged (controlChannel kind start) w air) where
   -- nothing disagrees with the word that was sent
   no-distance : disagreements control (wordBits kind) (mother kind start air) w ≡ 0
   no-distance =
-      same-distance kind known start air enough w (candidate .len)
-      ∙ ap (λ (r : List ℕ). distance disagrees r (sent kind start w)) undamaged-air
-      ∙ distance-self disagrees disagrees-self (sent kind start w) (sent-bits kind start w)
-
-  -- the first symbol of each step is known
-  first-known : (i : ℕ) → i < wordBits kind → getD (mother kind start air) (4 * i) 0 < 2
-  unfolding mother
-  first-known i h =
-      let j = ground kind known .kept-first i h in
-      let at = place (airSymbols kind) (interleaverStep kind) (j .0) in
-      let bit : getD (heard kind air) at 0 < 2 = subst (λ (r : List ℕ). getD r at 0 < 2) (sym undamaged-air) (bits-at (sent kind start w) (sent-bits kind start w) at) in
-      subst (λ (x : ℕ). x < 2) (sym (known-at (j .0) (j .1) (4 * i) (j .2))) (omega (arith, symbol-bit (getD (heard kind air) at 0) (output start at) bit (output-lt start at)))
-    where
-      known-at : (j : ℕ) → j < airSymbols kind → (x : ℕ) → keptPlace MODE j ≡ x → getD (mother kind start air) x 0
-          ≡ descrambledSymbol (getD (heard kind air) (place (airSymbols kind) (interleaverStep kind) j) 0) (output start (place (airSymbols kind) (interleaverStep kind) j))
-      known-at j h x e =
-          ap (λ (y : ℕ). getD (mother kind start air) y 0) (sym e)
-          ∙ ap (λ (d : ℕ). getD (depunctured MODE k (deinterleaved k a (tabulate (λ i. descrambledSymbol (getD (heard kind air) i 0) (output start i)) d)) blank) (keptPlace MODE j) 0)
-          (heard-length kind known start air enough)
-          ∙ received-at (λ r i. descrambledSymbol r (output start i)) (keptPlace MODE) (place k a) k (heard kind air) blank (ground kind known .kept-apart)
-          (λ i p. omega (arith, ground kind known .kept-within i p, length-replicate (4 * wordBits kind) ERASED)) (ground kind known .moved-within) j h
-        where
-          k : ℕ
-          k = airSymbols kind
-
-          a : ℕ
-          a = interleaverStep kind
-
-          blank : List ℕ
-          blank = replicate (4 * wordBits kind) ERASED
+      weighs kind known start air enough w (candidate .len)
+      ∙ undamaged-free (controlChannel kind start) Any (lawful kind start) air w clean
 
   pub word-back : wordFrom kind start air ≡ w
   unfolding wordFrom
-  word-back = decoded-undamaged control tt (wordBits kind) (mother kind start air) w candidate (omega (arith, mother-length kind start air)) first-known no-distance
+  word-back =
+      decoded-undamaged control tt (wordBits kind) (mother kind start air) w candidate (omega (arith, mother-length kind start air))
+      (λ i h. route-known (route kind known start air enough) (λ r. r < 2) w clean
+      (λ j l. omega (arith, symbol-bit (getD (sent kind start w) (at j) 0) (output start (at j)) (bits-at (sent kind start w) (sent-bits kind start w) (at j)) (output-lt start (at j))))
+      (4 * i) (ground kind known .kept-first i h)) no-distance
+    where
+      at : ℕ → ℕ
+      at = place (airSymbols kind) (interleaverStep kind)
 
   pub none-disagree : disagreementsOf kind start air ≡ 0
   unfolding disagreementsOf
   none-disagree = ap (disagreements control (wordBits kind) (mother kind start air)) word-back ∙ no-distance
 
 -- ---- a whole block
-done-accepted : (number : ℕ) → Done ≡ outcome number → number ≡ 0
-done-accepted zero e = refl
-done-accepted (suc number) e = let z : _≡_ {A = ℕ} 0 1 = cc in absurd (omega arith)
-
 -- what was sent and done, received under the same start, is Good, disagrees with nothing, and is the word of the data
 module _ (kind start : ℕ) (block air air′ word word′ trellis trellis′ : List ℕ) (answer : Received)
     (sends : Sends kind start block air Done air′) (room : wordBits kind ≤ length word) (steps : wordBits kind ≤ length trellis)
@@ -113,6 +89,13 @@ module _ (kind start : ℕ) (block air air′ word word′ trellis trellis′ : 
       ap (heard kind) on-air
       ∙ take-at (sent kind start (wordOf used)) (drop (length (sent kind start (wordOf used))) air) (airSymbols kind) (sent-length kind start (wordOf used))
 
+  clean : Undamaged (controlChannel kind start) (wordOf used) air′
+  clean j h =
+      sym (getD-take (airSymbols kind) air′ at 0 (ground kind (accepted .known) .moved-within j h)) ∙ ap (λ (l : List ℕ). getD l at 0) as-sent
+    where
+      at : ℕ
+      at = place (airSymbols kind) (interleaverStep kind) j
+
   candidate : Candidate (wordBits kind) (wordOf used)
   unfolding used
   candidate = word-candidate kind (row kind (accepted .known)) used (bits-only-bits (dataBits kind) block (accepted .plain)) used-length
@@ -122,10 +105,10 @@ module _ (kind start : ℕ) (block air air′ word word′ trellis trellis′ : 
       sym (receive-none kind (length air′) (length word) (length trellis) (accepted .known) (omega (arith, air-length, accepted .room)) room steps)
 
   back : wordFrom kind start air′ ≡ wordOf used
-  back = word-back kind (accepted .known) start (wordOf used) air′ candidate (omega (arith, air-length, accepted .room)) as-sent
+  back = word-back kind (accepted .known) start (wordOf used) air′ candidate (omega (arith, air-length, accepted .room)) clean
 
   none : disagreementsOf kind start air′ ≡ 0
-  none = none-disagree kind (accepted .known) start (wordOf used) air′ candidate (omega (arith, air-length, accepted .room)) as-sent
+  none = none-disagree kind (accepted .known) start (wordOf used) air′ candidate (omega (arith, air-length, accepted .room)) clean
 
   pub round-trip-answer : answer ≡ Good (record { disagreements = 0 })
   round-trip-answer =

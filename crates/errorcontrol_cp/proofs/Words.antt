@@ -1,7 +1,7 @@
 -- The word of a data block, and when a word is Good.
 -- Assumes nothing.
 use mathlib.Core.Path.{_≡_, refl, sym, ap, _∙_}
-use mathlib.Core.List.{List, [], _∷_, _++_, append-assoc, reverse, reverse-append}
+use mathlib.Core.List.{List, [], _∷_, _++_, append-assoc}
 use mathlib.Core.Bool.{true}
 use Prim.Native.Nat.{ℕ, zero, suc, _+_, _≤_, _<_}
 use native.Mathlib.Omega.{arith}
@@ -11,16 +11,13 @@ use lib.Seq.{take-at, take-add, drop-at, length-take-le, getD-take, getD-drop}
 use Rattle.base.specs.Bits.{Bits}
 use Rattle.base.proofs.BitLaws.{bits-append, bits-at, bits-of}
 use Rattle.trellis.specs.Nearest.{Candidate}
+use Rattle.trellis.proofs.Candidates.{tailed-candidate}
 use Rattle.crc16.specs.Crc.{register, OK, check}
 use Rattle.crc16.proofs.Checks.{check-bits, check-length, leaves-ok, only-check}
 use Rattle.errorcontrol_cp.specs.Kinds.{dataBits, wordBits}
 use Rattle.errorcontrol_cp.specs.Sending.{wordOf}
 use Rattle.errorcontrol_cp.specs.Receiving.{good}
 use Rattle.errorcontrol_cp.proofs.Rows.{Row}
-
-pub zeros-bits : (n : ℕ) → Bits (replicate n 0)
-zeros-bits zero = tt
-zeros-bits (suc n) = (omega arith, zeros-bits n)
 
 pub word-length : (block : List ℕ) → length (wordOf block) ≡ length block + 20
 word-length block =
@@ -32,18 +29,8 @@ word-bits block b =
 
 pub word-candidate : (kind : ℕ) → Row kind → (block : List ℕ) → Bits block → length block ≡ dataBits kind → Candidate (wordBits kind) (wordOf block)
 word-candidate kind row block b l =
-    record {
-      len = omega (arith, word-length block, row .word);
-      bits = word-bits block b;
-      tail = λ i h. ap (λ (w : List ℕ). getD w i 0) (reverse-append (block ++ check block) (0 ∷ 0 ∷ 0 ∷ 0 ∷ [])) ∙ zero-tail i h;
-    }
-  where
-    zero-tail : (i : ℕ) → i < 4 → getD ((0 ∷ 0 ∷ 0 ∷ 0 ∷ []) ++ reverse (block ++ check block)) i 0 ≡ 0
-    zero-tail zero h = refl
-    zero-tail (suc zero) h = refl
-    zero-tail (suc (suc zero)) h = refl
-    zero-tail (suc (suc (suc zero))) h = refl
-    zero-tail (suc (suc (suc (suc i)))) h = absurd (omega arith)
+    tailed-candidate (block ++ check block) (wordBits kind) (bits-append block (check block) b (check-bits block))
+    (omega (arith, length-append block (check block), check-length block, row .word))
 
 -- ---- the check
 module _ (kind : ℕ) (w : List ℕ) where

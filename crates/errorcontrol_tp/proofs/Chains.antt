@@ -23,8 +23,7 @@ use Rattle.convenc.specs.Puncturing.{punctured, depunctured, punctureRefusal, d
 use Rattle.convenc.proofs.Calls.{encode-accepts, puncture-accepts, depuncture-accepts}
 use Rattle.convenc.proofs.Encoding.{encoded-length}
 use Rattle.trellis.proofs.Encoding.{encode-append}
-use Rattle.convenc.proofs.Modes.{kept-apart, kept-within}
-use Rattle.convenc.proofs.Steps.{kept-first-of, kept-steps}
+use Rattle.trellis.proofs.Words.{bits-drop, zeros-bits}
 use Rattle.tch_reorder.specs.Order.{channelOf, codecOf, codecPlace}
 use Rattle.tch_reorder.proofs.Permutation.{codec-within, codec-apart, codec-onto}
 use Rattle.speech_crc.specs.Check.{speechCheck}
@@ -36,21 +35,9 @@ use Rattle.viterbi.specs.declared.Decoded.{Decoded}
 use Rattle.viterbi.specs.declared.Decoded.the-variants.{Word, Refused}
 use Rattle.viterbi.specs.Decoding.{decodeRefusal, Decodes, decoded, disagreements, cleared}
 use Rattle.errorcontrol_tp.specs.Speech.{uncoded, speechWord, codedOf, motherOf, onAir, slot, sendRefusal, receiveRefusal, blockOf, wordOf, slotDisagreements, sameBits, isGood, countsOf, codecBits, readBit, supplied}
-use Rattle.errorcontrol_tp.proofs.Mother.{Kept, bits-take, bits-drop, mother-long}
-use Rattle.errorcontrol_tp.proofs.Air.{bits-zeros, air-long}
+use Rattle.errorcontrol_tp.proofs.Mother.{bits-take, mother-long}
+use Rattle.errorcontrol_tp.proofs.Air.{air-long}
 use Rattle.errorcontrol_tp.proofs.Parts.{whole, made}
-
--- what the two modes keep
-pub kept : Kept
-kept =
-    record {
-      apart₁ = kept-apart 4 (omega arith) 168;
-      within₁ = kept-steps 4 168 112 tt (omega arith);
-      first₁ = λ t h. kept-first-of 4 168 112 t tt (omega arith) h;
-      apart₂ = kept-apart 5 (omega arith) 162;
-      within₂ = kept-steps 5 162 72 tt (omega arith);
-      first₂ = λ t h. kept-first-of 5 162 72 t tt (omega arith) h;
-    }
 
 -- ---- an array written in parts
 pub two-parts : (p z q : List ℕ) (a b : ℕ) → length p ≡ a → length z ≡ b → putMid a b (p ++ z) q ≡ p ++ q
@@ -76,8 +63,8 @@ module _ (channel class2 : List ℕ) (long : length channel ≡ 274) (plain : Bi
   pub both-accepted : (room other : ℕ) → 336 ≤ room → 216 ≤ other
       → (encodeRefusal 3 (0 ∷ 0 ∷ 0 ∷ 0 ∷ []) first room ≡ accepted) × (encodeRefusal 3 (0 ∷ 0 ∷ 0 ∷ 0 ∷ []) class2 other ≡ accepted)
   both-accepted room other h k = (
-    encode-accepts 3 (replicate 4 0) first room (omega (arith, first-long)) (omega (arith, first-long)) (bits-take 112 (drop 102 channel) (bits-drop 102 channel plain)) (bits-zeros 4),
-    encode-accepts 3 (replicate 4 0) class2 other (omega arith) (omega arith) bits (bits-zeros 4),
+    encode-accepts 3 (replicate 4 0) first room (omega (arith, first-long)) (omega (arith, first-long)) (bits-take 112 (drop 102 channel) (bits-drop 102 channel plain)) (zeros-bits 4),
+    encode-accepts 3 (replicate 4 0) class2 other (omega arith) (omega arith) bits (zeros-bits 4),
   )
 
   pub mother-is : (x x′ y y′ : List ℕ) → length x ≡ 336 → length y ≡ 216 → InTurn first class2 x x′ y y′
@@ -189,7 +176,7 @@ module _ (block p q : List ℕ) (long : length block ≡ 432)
 pub class2-plain : (channel class2 : List ℕ) → Bits channel → class2 ≡ take 60 (drop 214 channel) ++ speechCheck (take 60 (drop 214 channel)) ++ replicate 4 0 → Bits class2
 class2-plain channel class2 b e =
     subst (λ (l : List ℕ). Bits l) (sym e)
-    (bits-append (bits ++ speechCheck bits) (replicate 4 0) (bits-append bits (speechCheck bits) (bits-take 60 (drop 214 channel) (bits-drop 214 channel b)) (check-bits bits)) (bits-zeros 4))
+    (bits-append (bits ++ speechCheck bits) (replicate 4 0) (bits-append bits (speechCheck bits) (bits-take 60 (drop 214 channel) (bits-drop 214 channel b)) (check-bits bits)) (zeros-bits 4))
   where
     bits : List ℕ
     bits = take 60 (drop 214 channel)
@@ -219,39 +206,6 @@ block-is channel class2 one two block l e f g =
     joined : one ++ two ≡ encode (outputs speech) 0 (speechWord channel)
     joined = f ∙ ap (encode (outputs speech) 0) (word-joined channel class2 e)
 
--- ---- what no refusal says
-pub record SendAccepted (count : ℕ) (codec : List ℕ) (air : ℕ) : Type 0 where
-  pub long : 274 ≤ length codec
-  pub room : count ≤ air
-  pub plain : bitsOnly 274 codec ≡ true
-
-pub send-accepted : (count : ℕ) (codec : List ℕ) (air : ℕ) → sendRefusal count codec air ≡ 0 → SendAccepted count codec air
-send-accepted count codec air e =
-    let first = passed (ltb (length codec) 274) 1 _ e in
-    let second = passed (ltb air count) 2 _ (first .1) in
-    let third = passed (not (bitsOnly 274 codec)) 3 _ (second .1) in
-    record {
-      long = ltb-false (length codec) 274 (first .0);
-      room = ltb-false air count (second .0);
-      plain = not-false (bitsOnly 274 codec) (third .0);
-    }
-
-pub record ReceiveAccepted (count air codec trellis : ℕ) : Type 0 where
-  pub long : count ≤ air
-  pub room : 274 ≤ codec
-  pub steps : 184 ≤ trellis
-
-pub receive-accepted : (count air codec trellis : ℕ) → receiveRefusal count air codec trellis ≡ 0 → ReceiveAccepted count air codec trellis
-receive-accepted count air codec trellis e =
-    let first = passed (ltb air count) 1 _ e in
-    let second = passed (ltb codec 274) 2 _ (first .1) in
-    let third = passed (ltb trellis 184) 2 _ (second .1) in
-    record {
-      long = ltb-false air count (first .0);
-      room = ltb-false codec 274 (second .0);
-      steps = ltb-false trellis 184 (third .0);
-    }
-
 -- the codec bits over a target
 pub codec-over : (channel codec : List ℕ) → 274 ≤ length codec → codecOf channel codec ≡ written (codecOf channel (replicate 274 0)) codec
 codec-over channel codec h =
@@ -266,10 +220,6 @@ pub slot-is : (start : ℕ) (codec channel class2 one two block air : List ℕ) 
 unfolding slot
 slot-is start codec channel class2 one two block air l c e f g h =
     h ∙ ap (onAir start) (block-is channel class2 one two block l e f g) ∙ ap (λ (x : List ℕ). onAir start (uncoded x ++ codedOf (speechWord x))) c
-
-pub slot-long : (start : ℕ) (codec : List ℕ) → length (slot start codec) ≡ 432
-unfolding slot
-slot-long start codec = air-long start (uncoded (channelOf codec) ++ codedOf (speechWord (channelOf codec)))
 
 -- symbols copied over the front of a target
 pub copied-over : (n : ℕ) (symbols air q : List ℕ) → length symbols ≡ n → n ≤ length air → q ≡ take (length (take n air)) symbols
@@ -335,6 +285,3 @@ codec-is start slot block word codec left b w h e =
 pub half-made : (air q : List ℕ) → 216 ≤ length air → q ≡ take 216 (take 216 air) → putMid 216 216 (replicate 432 ERASED) q ≡ supplied air
 half-made air q h e =
     ap (λ (l : List ℕ). replicate 216 ERASED ++ l) (append-nil q ∙ e ∙ take-all 216 (take 216 air) (omega (arith, length-take-le 216 air h)))
-
-pub half-long : (air : List ℕ) → 216 ≤ length air → length (supplied air) ≡ 432
-half-long air h = length-append (replicate 216 ERASED) (take 216 air) ∙ ap (λ (n : ℕ). 216 + n) (length-take-le 216 air h)

@@ -1,96 +1,101 @@
--- Demand 3 on the air: the decoded word of a slot is the nearest of all words that could have been sent, over the unerased coded places.
+-- Demand 3 for a speech slot and for a second half, over what `decode_tp` and `decode_tp_half` answer and write.
 -- Assumes nothing.
-use mathlib.Core.Path.{_≡_, refl, sym, ap, ap₂, _∙_}
-use mathlib.Core.List.{List, [], _∷_, _++_}
-use mathlib.Core.Logic.{_⊎_, inl, inr}
-use mathlib.Core.Bool.{Bool, true, false}
-use Prim.Native.Nat.{ℕ, zero, suc, _+_, _-_, _*_, _≤_, _<_}
+use mathlib.Core.Path.{_≡_, sym, ap, _∙_}
+use mathlib.Core.List.{List, _++_}
+use Prim.Native.Nat.{ℕ, _+_, _%_, _≤_, _<_}
 use native.Mathlib.Omega.{arith}
-use lib.Dec.{ltb}
-use borrow.Author.Tests.{ltb-true, ltb-false}
-use lib.ListN.{length, take, drop, replicate, getD}
-use lib.Seq.{take-all}
-use Rattle.base.specs.Bits.{Bits, ERASED, disagrees}
-use Rattle.base.specs.Places.{gather, Apart, Within}
-use Rattle.base.proofs.BitLaws.{bits-append}
-use Rattle.base.proofs.Moves.{gather-at}
-use Rattle.trellis.specs.Nearest.{encode, distance, nearest, Candidate}
-use Rattle.trellis.proofs.Winners.{nearest-same, nearest-length}
-use Rattle.air.specs.Filling.{Filled}
-use Rattle.air.proofs.Symbols.{disagrees-filled}
-use Rattle.air.proofs.Steady.{steady, toward-filled}
+use lib.ListN.{length, replicate, getD, length-replicate}
+use lib.Seq.{length-take-le}
+use Rattle.base.specs.declared.Counts.{Counts}
+use Rattle.base.specs.Bits.{disagrees}
+use Rattle.base.specs.Places.{written}
+use Rattle.base.specs.Refusal.{unless}
+use Rattle.base.proofs.BitLaws.{bits-at}
+use Rattle.trellis.specs.Nearest.{encode}
 use Rattle.convenc.specs.Generators.{outputs, speech}
-use Rattle.convenc.specs.Puncturing.{keptPlace}
-use Rattle.interleaver.proofs.Matrix.{matrix-onto}
+use Rattle.convenc.proofs.Encoding.{encoded-bits}
+use Rattle.scrambler.specs.Scrambling.{descrambledSymbol, output}
+use Rattle.scrambler.proofs.Outputs.{output-lt}
+use Rattle.scrambler.proofs.Blocks.{symbol-disagrees}
 use Rattle.viterbi.specs.Decoding.{disagreements}
-use Rattle.errorcontrol_tp.specs.Speech.{firstMode, secondMode, codedOf, onAir, blockOf, motherOf, wordOf, slotDisagreements}
-use Rattle.errorcontrol_tp.specs.OnAir.{codedOnly, sentCoded, airDistance}
-use Rattle.errorcontrol_tp.proofs.Mother.{Kept, mother-long, mother-distance, coded-long, coded-bits}
-use Rattle.errorcontrol_tp.proofs.Air.{airPlace, block-long, coded-distance, coded-only-long, coded-only-at, front-at, rest-at, air-long, air-bits}
+use Rattle.viterbi.specs.Hearing.{motherCode}
+use Rattle.viterbi.proofs.Promises.{mother-weighs}
+use Rattle.air.specs.Demand.{HeardRight}
+use Rattle.air.proofs.Answers.{received-accepted}
+use Rattle.air.proofs.Channel.{Weighs, Lawful, Decoder, heard-right}
+use Rattle.air.proofs.Hard.{Any, hard-lawful}
+use Rattle.air.proofs.Route.{Route, route-distance}
+use Rattle.errorcontrol_tp.specs.Speech.{codedOf, blockOf, motherOf, wordOf, isGood, slotDisagreements, countsOf, codecBits, supplied, receiveRefusal}
+use Rattle.errorcontrol_tp.specs.Hearing.{codedPlace, sentWord, speechChannel, wholeSlot, codecWith, Unrefused}
+use Rattle.errorcontrol_tp.proofs.Mother.{mother-long, motherPlace, mother-apart, mother-within, coded-at, mother-at, mother-missed}
+use Rattle.errorcontrol_tp.proofs.Air.{block-at, air-bits, sent-symbol}
+use Rattle.errorcontrol_tp.proofs.Refusals.{ReceiveAccepted, receive-accepted, half-long}
 
-pub sent-long : (start : ℕ) (w : List ℕ) → length (sentCoded start w) ≡ 432
-unfolding sentCoded
-sent-long start w = air-long start (replicate 102 0 ++ codedOf w)
+pub sent-bit : (start : ℕ) (w : List ℕ) (x : ℕ) → getD (sentWord start w) x 0 < 2
+unfolding sentWord
+sent-bit start w x = bits-at (sentWord start w) (air-bits start (replicate 102 0 ++ codedOf w)) x
 
-pub sent-bits : (start : ℕ) (w : List ℕ) → Bits (sentCoded start w)
-unfolding sentCoded
-sent-bits start w = air-bits start (replicate 102 0 ++ codedOf w)
+pub lawful : (start : ℕ) (slotOf : List ℕ → List ℕ) → Lawful (speechChannel start slotOf) Any
+lawful start slotOf =
+    hard-lawful 184 330 codedPlace (λ w x. getD (sentWord start w) x 0) (λ (air : List ℕ) x. getD (slotOf air) x 0) (λ w j h. sent-bit start w (codedPlace j))
 
-module _ (kept : Kept) (start : ℕ) (air : List ℕ) (whole : length air ≡ 432) where
-  word-distance : (w : List ℕ) → length w ≡ 184 → disagreements speech 184 (motherOf (blockOf start air)) w ≡ airDistance start air w
-  unfolding sentCoded
-  word-distance w e =
-      ap (λ (l : List ℕ). distance disagrees l (encode (outputs speech) 0 w)) (take-all 552 (motherOf (blockOf start air)) (omega (arith, mother-long (blockOf start air))))
-      ∙ mother-distance kept (blockOf start air) w (block-long start air) e
-      ∙ coded-distance start air (codedOf w) whole (coded-long w) (coded-bits w)
+module _ (start : ℕ) (slotOf : List ℕ → List ℕ) (air : List ℕ) (whole : length (slotOf air) ≡ 432) where
+  -- from the decoder's symbols to the air: what the two modes keep, and where the matrix moves it
+  pub route : Route (motherCode speech 184) (speechChannel start slotOf) motherPlace (λ r j. descrambledSymbol r (output start (codedPlace j)))
+      (motherOf (blockOf start (slotOf air))) air
+  unfolding sentWord
+  route =
+      record {
+        apart = mother-apart;
+        within = mother-within;
+        given = λ j h. mother-at (blockOf start (slotOf air)) j h ∙ block-at start (slotOf air) whole (102 + j) (omega arith);
+        undone = λ w e j h r. symbol-disagrees r (getD (encode (outputs speech) 0 w) (motherPlace j) 0) (output start (codedPlace j))
+            (bits-at (encode (outputs speech) 0 w) (encoded-bits speech 0 w) (motherPlace j)) (output-lt start (codedPlace j))
+            ∙ ap (disagrees r) (sym (sent-symbol start (replicate 102 0) (codedOf w) (length-replicate {A = ℕ} 102 0) j h
+            ∙ ap (λ (y : ℕ). (y + output start (codedPlace j)) % 2) (coded-at w e j h)));
+        missed = mother-missed (blockOf start (slotOf air));
+      }
 
-  -- the decoded word is the nearest on the air
-  pub word-nearest : wordOf start air ≡ nearest (airDistance start air) 184
-  unfolding wordOf
-  word-nearest =
-      nearest-same (disagreements speech 184 (motherOf (blockOf start air))) (airDistance start air) 184 (λ v c. word-distance v (c .len))
+  pub weighs : Weighs (speechChannel start slotOf) air (disagreements speech 184 (motherOf (blockOf start (slotOf air))))
+  weighs w e =
+      mother-weighs speech 184 (motherOf (blockOf start (slotOf air))) (omega (arith, mother-long (blockOf start (slotOf air)))) w e ∙ route-distance route w e
 
-  pub word-long : length (wordOf start air) ≡ 184
-  word-long = ap length word-nearest ∙ nearest-length (airDistance start air) 184
+-- ---- demand 3
+module _ {size start : ℕ} {slotOf : List ℕ → List ℕ} {air : List ℕ} {count : ℕ} {codec codec′ : List ℕ} (u : Unrefused size start slotOf air count codec codec′) where
+  -- the number that was not given
+  abbrev refusal : ℕ
+  refusal = receiveRefusal size (length air) (length codec) (length (u .trellis))
 
-  -- the reported disagreements are its distance on the air
-  pub count-on-air : slotDisagreements start air ≡ airDistance start air (wordOf start air)
-  unfolding slotDisagreements
-  count-on-air = word-distance (wordOf start air) word-long
+  unrefused : (refusal ≡ 0) × (u .counts ≡ countsOf start (slotOf air))
+  unrefused = received-accepted refusal (u .good) (isGood start (slotOf air)) (u .counts) (countsOf start (slotOf air)) (u .call .answered)
 
--- coded air places that become what the decoded word sends there leave the decoded word; uncoded places may become anything
-pub word-steady : Kept → (start : ℕ) (air air′ : List ℕ) → length air ≡ 432 → length air′ ≡ 432
-    → ((i : ℕ) → 102 ≤ i → i < 432 → (getD air′ (airPlace i) 0 ≡ getD air (airPlace i) 0) ⊎ (getD air′ (airPlace i) 0 ≡ getD (sentCoded start (wordOf start air)) (airPlace i) 0))
-    → wordOf start air′ ≡ wordOf start air
-word-steady kept start air air′ e f h =
-    word-nearest kept start air′ f
-    ∙ steady disagrees (sentCoded start) 184 432 (λ v c. sent-bits start v) (λ v c. sent-long start v) (codedOnly air) (codedOnly air′)
-    (toward-filled disagrees disagrees-filled (codedOnly air) (codedOnly air′) sent (coded-only-long air ∙ sym (sent-long start w))
-    (coded-only-long air′ ∙ sym (sent-long start w)) (sent-bits start w) (λ x l. at x (matrix-onto 24 18 x (omega (arith, sent-long start w)))))
-    ∙ sym (word-nearest kept start air e)
-  where
-    w : List ℕ
-    w = nearest (airDistance start air) 184
+  pub accepts : ReceiveAccepted size (length air) (length codec) (length (u .trellis))
+  accepts = receive-accepted size (length air) (length codec) (length (u .trellis)) (unrefused .0)
 
-    sent : List ℕ
-    sent = sentCoded start w
+  pub writes-codec : codec′ ≡ written (codecBits start (slotOf air)) codec
+  writes-codec = u .call .target ∙ ap (λ (n : ℕ). unless n (written (codecBits start (slotOf air)) codec) codec) (unrefused .0)
 
-    same : (i : ℕ) → (t : Bool) → ltb i 102 ≡ t → i < 432
-        → (getD (codedOnly air′) (airPlace i) 0 ≡ getD (codedOnly air) (airPlace i) 0) ⊎ (getD (codedOnly air′) (airPlace i) 0 ≡ getD sent (airPlace i) 0)
-    same i true q l =
-        inl (coded-only-at air′ i l ∙ front-at (drop 102 (gather airPlace 432 air′)) i (ltb-true i 102 q)
-        ∙ sym (coded-only-at air i l ∙ front-at (drop 102 (gather airPlace 432 air)) i (ltb-true i 102 q)))
-    same i false q l = go (h i (ltb-false i 102 q) l)
-      where
-        here : (a : List ℕ) → getD (codedOnly a) (airPlace i) 0 ≡ getD a (airPlace i) 0
-        here a = coded-only-at a i l ∙ rest-at (gather airPlace 432 a) i (ltb-false i 102 q) ∙ gather-at airPlace 432 a i l
+  pub counts-word : count ≡ slotDisagreements start (slotOf air)
+  counts-word = u .counted ∙ ap (λ (c : Counts). c .disagreements) (unrefused .1)
 
-        go : (getD air′ (airPlace i) 0 ≡ getD air (airPlace i) 0) ⊎ (getD air′ (airPlace i) 0 ≡ getD (sentCoded start (wordOf start air)) (airPlace i) 0)
-            → (getD (codedOnly air′) (airPlace i) 0 ≡ getD (codedOnly air) (airPlace i) 0) ⊎ (getD (codedOnly air′) (airPlace i) 0 ≡ getD sent (airPlace i) 0)
-        go (inl p) = inl (here air′ ∙ p ∙ sym (here air))
-        go (inr p) = inr (here air′ ∙ p ∙ ap (λ (v : List ℕ). getD (sentCoded start v) (airPlace i) 0) (word-nearest kept start air e))
+-- an entry that reads what it is given as a whole slot
+decoder : (size start : ℕ) (slotOf : List ℕ → List ℕ) → ((air : List ℕ) → size ≤ length air → length (slotOf air) ≡ 432)
+    → Decoder (speechChannel start slotOf) Any (Unrefused size start slotOf) (codecWith start slotOf)
+    (λ air. disagreements speech 184 (motherOf (blockOf start (slotOf air))))
+unfolding codecBits wordOf slotDisagreements
+decoder size start slotOf whole =
+    record {
+      lawful = lawful start slotOf;
+      fits = λ air count codec codec′ u j h. tt;
+      weighs = λ air count codec codec′ u. weighs start slotOf air (whole air (accepts u .long));
+      writes = λ air count codec codec′ u. writes-codec u;
+      counts = λ air count codec codec′ u. counts-word u;
+    }
 
-    at : (x : ℕ) → (i : ℕ) × (i < 432) × (airPlace i ≡ x)
-        → (getD (codedOnly air′) x 0 ≡ getD (codedOnly air) x 0) ⊎ (getD (codedOnly air′) x 0 ≡ getD sent x 0)
-    at x q = mathlib.Core.Path.subst (λ (y : ℕ). (getD (codedOnly air′) y 0 ≡ getD (codedOnly air) y 0) ⊎ (getD (codedOnly air′) y 0 ≡ getD sent y 0)) (q .2)
-        (same (q .0) (ltb (q .0) 102) refl (q .1))
+pub decode-tp-right : (start : ℕ) (air : List ℕ) (count : ℕ) (codec codec′ : List ℕ) → Unrefused 432 start wholeSlot air count codec codec′
+    → HeardRight (speechChannel start wholeSlot) (Unrefused 432 start wholeSlot) (codecWith start wholeSlot) air count codec codec′
+decode-tp-right start = heard-right (decoder 432 start wholeSlot (λ air h. length-take-le 432 air h))
+
+pub decode-tp-half-right : (start : ℕ) (air : List ℕ) (count : ℕ) (codec codec′ : List ℕ) → Unrefused 216 start supplied air count codec codec′
+    → HeardRight (speechChannel start supplied) (Unrefused 216 start supplied) (codecWith start supplied) air count codec codec′
+decode-tp-half-right start = heard-right (decoder 216 start supplied half-long)

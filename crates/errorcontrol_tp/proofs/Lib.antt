@@ -1,5 +1,6 @@
 pub mod Mother
 pub mod Air
+pub mod Refusals
 pub mod Demand
 pub mod RoundTrip
 pub mod Parts

@@ -19,7 +19,8 @@ use Rattle.interleaver.specs.Interleaving.{matrixInterleaved, matrixDeinterleav
 use Rattle.scrambler.specs.Scrambling.{scrambled, descrambled, sendRefusal}
 use Rattle.scrambler.proofs.Blocks.{descrambled-length}
 use Rattle.errorcontrol_tp.specs.Speech.{onAir, blockOf, readBit, sameBits}
-use Rattle.errorcontrol_tp.proofs.Air.{airPlace, bits-zeros}
+use Rattle.trellis.proofs.Words.{zeros-bits}
+use Rattle.errorcontrol_tp.proofs.Air.{airPlace}
 use Rattle.base.specs.Places.{written, tabulate}
 use Rattle.base.proofs.Lists.{written-whole, tabulate-of}
 use Rattle.speech_crc.specs.Check.{speechCheck, checkRefusal}
@@ -97,7 +98,7 @@ air-made start block blank a b e plain zeros p q =
     free =
         ap (λ (t : Bool). when (not t) BIT accepted)
         (ap (bitsOnly (length a)) moved
-        ∙ bits-only-yes (length a) (matrixInterleaved 24 18 block (replicate 432 0)) (scatter-bits airPlace 432 block (replicate 432 0) plain (bits-zeros 432)))
+        ∙ bits-only-yes (length a) (matrixInterleaved 24 18 block (replicate 432 0)) (scatter-bits airPlace 432 block (replicate 432 0) plain (zeros-bits 432)))
 
 pub block-made : (start : ℕ) (air s t blank b : List ℕ) → length air ≡ 432 → s ≡ take 432 air → t ≡ descrambled start s → length blank ≡ 432
     → b ≡ unless (matrixRefusal 24 18 (length t) (length blank)) (written (matrixDeinterleaved 24 18 t) blank) blank → b ≡ blockOf start air

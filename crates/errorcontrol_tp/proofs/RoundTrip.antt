@@ -1,69 +1,46 @@
 -- A whole slot, sent and received undamaged under the same start, gives back its bits, is Good, and disagrees nowhere.
 -- Assumes nothing.
 use mathlib.Core.Path.{_≡_, refl, sym, ap, ap₂, _∙_, subst}
-use mathlib.Core.List.{List, [], _∷_, _++_, map, reverse, reverse-append, append-assoc}
-use mathlib.Core.Bool.{Bool, true, false}
-use Prim.Native.Nat.{ℕ, zero, suc, _+_, _-_, _*_, _%_, _≤_, _<_}
+use mathlib.Core.List.{List, [], _∷_, _++_, map, append-assoc}
+use mathlib.Core.Bool.{Bool, true}
+use Prim.Native.Nat.{ℕ, zero, suc, _+_, _*_, _≤_, _<_}
 use native.Mathlib.Omega.{arith}
-use lib.Dec.{ltb, eqb}
-use borrow.Author.Tests.{ltb-true, ltb-false, eq-eqb}
-use lib.ListN.{length, take, drop, replicate, getD, length-append, length-drop, length-replicate, List·getD-append, take-append-drop}
-use lib.Seq.{take-all, take-at, drop-at, length-take-le, drop-drop, getD-append-add}
-use Rattle.base.specs.Bits.{Bits, both, bitsOnly, ERASED, disagrees}
-use Rattle.base.specs.Places.{gather, Apart, Within}
-use Rattle.base.proofs.BitLaws.{bits-append, bits-at, bits-tabulate, bits-only-at}
-use Rattle.base.proofs.Lists.{written-whole}
-use Rattle.base.proofs.Moves.{gather-length, scatter-length, scatter-hit}
-use Rattle.trellis.specs.Nearest.{encode, distance, nearest, Candidate}
-use Rattle.trellis.proofs.Undamaged.{undamaged}
-use Rattle.air.proofs.Passing.{distance-self}
-use Rattle.air.proofs.Symbols.{disagrees-self, disagrees-tells}
-use Rattle.convenc.specs.Generators.{outputs, speech, tapped, dot}
-use Rattle.base.specs.Digits.{digits}
-use Rattle.convenc.specs.Puncturing.{depunctured, keptPlace}
+use borrow.Author.Tests.{eq-eqb, le-ltb}
+use lib.ListN.{length, take, drop, replicate, getD, length-append, length-drop, length-replicate, take-append-drop}
+use lib.Seq.{take-all, take-at, drop-at, length-take-le, drop-drop}
+use Rattle.base.specs.declared.Outcome.the-variants.{Done}
+use Rattle.base.specs.declared.Received.{Received}
+use Rattle.base.specs.declared.Received.the-variants.{Good}
+use Rattle.base.specs.Bits.{Bits, both, bitsOnly}
+use Rattle.base.specs.Places.{written}
+use Rattle.base.specs.Refusal.{unless, checked, reception}
+use Rattle.base.proofs.BitLaws.{bits-append, bits-tabulate, bits-only-at}
+use Rattle.base.proofs.Lists.{written-length, written-whole}
+use Rattle.base.proofs.Moves.{gather-length}
+use Rattle.trellis.specs.Nearest.{Candidate}
+use Rattle.trellis.proofs.Candidates.{tailed-candidate}
+use Rattle.trellis.proofs.Words.{bits-drop}
+use Rattle.convenc.specs.Generators.{speech}
+use Rattle.scrambler.specs.Scrambling.{output}
+use Rattle.scrambler.proofs.Outputs.{output-lt}
+use Rattle.scrambler.proofs.Blocks.{symbol-bit}
 use Rattle.tch_reorder.specs.Order.{channelOf, codecOf, codecPlace}
 use Rattle.tch_reorder.proofs.Permutation.{codec-within, codec-of-channel}
 use Rattle.speech_crc.specs.Check.{speechCheck}
 use Rattle.speech_crc.proofs.Shape.{check-length, check-bits}
 use Rattle.viterbi.specs.Decoding.{disagreements}
-use Rattle.errorcontrol_tp.specs.Speech.{firstMode, secondMode, uncoded, speechWord, codedOf, onAir, slot, blockOf, motherOf, readBit, wordOf, codecBits, sameBits, isGood, slotDisagreements}
-use Rattle.errorcontrol_tp.proofs.Mother.{Kept, speech-wide, speech-plain, bits-take, bits-drop, mother-long, mother-distance, coded-long, coded-bits}
-use Rattle.errorcontrol_tp.proofs.Air.{bits-zeros, block-of-air}
-
--- ---- a first generator that has the newest bit tells it
-window : (b s : ℕ) → b < 2 → s < 16 → digits 5 (16 * b + s) ≡ b ∷ digits 4 s
-window b s hb hs =
-    ap₂ (λ (x : ℕ) (l : List ℕ). x ∷ l) (omega arith)
-    (ap₂ (λ (x : ℕ) (l : List ℕ). x ∷ l) (omega arith)
-    (ap₂ (λ (x : ℕ) (l : List ℕ). x ∷ l) (omega arith)
-    (ap₂ (λ (x : ℕ) (l : List ℕ). x ∷ l) (omega arith) (ap (λ (x : ℕ). x ∷ []) (omega arith)))))
-
-pub leads : (g : List ℕ) (gs : List (List ℕ)) (s b c : ℕ) → s < 16 → b < 2 → c < 2
-    → getD (outputs ((1 ∷ g) ∷ gs) (16 * b + s)) 0 0 ≡ getD (outputs ((1 ∷ g) ∷ gs) (16 * c + s)) 0 0 → b ≡ c
-unfolding tapped
-leads g gs s b c hs hb hc e = told b c (dot g (digits 4 s)) hb hc (sym (at b hb) ∙ e ∙ at c hc)
-  where
-    at : (b : ℕ) → b < 2 → tapped (1 ∷ g) (16 * b + s) ≡ (1 * b + dot g (digits 4 s)) % 2
-    at b h = ap (λ (l : List ℕ). dot (1 ∷ g) l % 2) (window b s h hs)
-
-    told : (b c x : ℕ) → b < 2 → c < 2 → (1 * b + x) % 2 ≡ (1 * c + x) % 2 → b ≡ c
-    told b c x h k q = omega arith
-
--- ---- a word that ends in four zeros is a candidate
-tail-zero : (l : List ℕ) (i : ℕ) → i < 4 → getD (replicate 4 0 ++ l) i 0 ≡ 0
-tail-zero l zero h = refl
-tail-zero l (suc zero) h = refl
-tail-zero l (suc (suc zero)) h = refl
-tail-zero l (suc (suc (suc zero))) h = refl
-tail-zero l (suc (suc (suc (suc i)))) h = absurd (omega arith)
-
-pub tailed : (front : List ℕ) (n : ℕ) → Bits front → length front + 4 ≡ n → Candidate n (front ++ replicate 4 0)
-tailed front n b e =
-    record {
-      len = length-append front (replicate 4 0) ∙ e;
-      bits = bits-append front (replicate 4 0) b (bits-zeros 4);
-      tail = λ i h. ap (λ (l : List ℕ). getD l i 0) (reverse-append front (replicate 4 0)) ∙ tail-zero (reverse front) i h;
-    }
+use Rattle.viterbi.proofs.Promises.{decoded-undamaged}
+use Rattle.air.specs.Channel.{Undamaged}
+use Rattle.air.proofs.Answers.{done-accepted}
+use Rattle.air.proofs.Channel.{undamaged-free}
+use Rattle.air.proofs.Hard.{Any}
+use Rattle.air.proofs.Route.{route-known}
+use Rattle.errorcontrol_tp.specs.Speech.{uncoded, speechWord, codedOf, slot, blockOf, motherOf, readBit, wordOf, codecBits, sameBits, isGood, slotDisagreements, countsOf, sendRefusal, receiveRefusal, Sends, Receives}
+use Rattle.errorcontrol_tp.specs.Hearing.{codedPlace, sentWord, speechChannel, wholeSlot}
+use Rattle.errorcontrol_tp.proofs.Mother.{bits-take, mother-long, mother-first, coded-long, coded-bits}
+use Rattle.errorcontrol_tp.proofs.Air.{block-of-air, slot-carries, slot-long}
+use Rattle.errorcontrol_tp.proofs.Refusals.{SendAccepted, send-accepted}
+use Rattle.errorcontrol_tp.proofs.Demand.{sent-bit, lawful, route, weighs}
 
 -- ---- the pieces of a slot's word
 module _ (channel : List ℕ) (long : length channel ≡ 274) (plain : Bits channel) where
@@ -98,7 +75,7 @@ module _ (channel : List ℕ) (long : length channel ≡ 274) (plain : Bits chan
   pub word-candidate : Candidate 184 (speechWord channel)
   word-candidate =
       subst (λ (w : List ℕ). Candidate 184 w) (sym word-is)
-      (tailed front 184
+      (tailed-candidate front 184
       (bits-append (first ++ second) (speechCheck second)
       (bits-append first second (bits-take 112 (drop 102 channel) (bits-drop 102 channel plain)) second-plain) (check-bits second))
       (ap (λ (n : ℕ). n + 4) front-long))
@@ -146,71 +123,6 @@ module _ (channel : List ℕ) (long : length channel ≡ 274) (plain : Bits chan
   pub block-plain : Bits block
   block-plain = bits-append (uncoded channel) (codedOf (speechWord channel)) (bits-take 102 channel plain) (coded-bits (speechWord channel))
 
-  module _ (kept : Kept) where
-    mother-zero : distance disagrees (motherOf block) (encode (outputs speech) 0 (speechWord channel)) ≡ 0
-    mother-zero =
-        mother-distance kept block (speechWord channel) block-whole (word-candidate .len)
-        ∙ ap (λ (l : List ℕ). distance disagrees l (codedOf (speechWord channel))) (drop-at (uncoded channel) (codedOf (speechWord channel)) 102 uncoded-long)
-        ∙ distance-self disagrees disagrees-self (codedOf (speechWord channel)) (coded-bits (speechWord channel))
-
-    -- the first symbol of every step is a bit
-    leading : (t : ℕ) → t < 184 → getD (motherOf block) (3 * t) 0 < 2
-    unfolding motherOf
-    leading t h = go (ltb t 112) refl
-      where
-        x : List ℕ
-        x = take 168 (drop 102 block)
-
-        y : List ℕ
-        y = take 162 (drop 270 block)
-
-        a : List ℕ
-        a = depunctured firstMode 168 x (replicate 336 ERASED)
-
-        b : List ℕ
-        b = depunctured secondMode 162 y (replicate 216 ERASED)
-
-        la : length a ≡ 336
-        la = scatter-length (keptPlace firstMode) 168 x (replicate 336 ERASED) ∙ length-replicate 336 ERASED
-
-        at₁ : (q : (j : ℕ) × (j < 168) × (keptPlace firstMode j ≡ 3 * t)) → getD a (3 * t) 0 ≡ getD x (q .0) 0
-        at₁ q =
-            ap (λ (k : ℕ). getD a k 0) (sym (q .2))
-            ∙ scatter-hit (keptPlace firstMode) 168 x (replicate 336 ERASED) (kept .apart₁) (λ i l. omega (arith, kept .within₁ i l, length-replicate 336 ERASED)) (q .0) (q .1)
-
-        at₂ : (q : (j : ℕ) × (j < 162) × (keptPlace secondMode j ≡ 3 * (t - 112))) → getD b (3 * (t - 112)) 0 ≡ getD y (q .0) 0
-        at₂ q =
-            ap (λ (k : ℕ). getD b k 0) (sym (q .2))
-            ∙ scatter-hit (keptPlace secondMode) 162 y (replicate 216 ERASED) (kept .apart₂) (λ i l. omega (arith, kept .within₂ i l, length-replicate 216 ERASED)) (q .0) (q .1)
-
-        go : (u : Bool) → ltb t 112 ≡ u → getD (a ++ b) (3 * t) 0 < 2
-        go true e =
-            let q = kept .first₁ t (ltb-true t 112 e) in
-            omega (
-              arith,
-              List·getD-append a b 0 (3 * t) (omega (arith, la, ltb-true t 112 e)),
-              at₁ q,
-              bits-at x (bits-take 168 (drop 102 block) (bits-drop 102 block block-plain)) (q .0),
-            )
-        go false e =
-            let q = kept .first₂ (t - 112) (omega (arith, ltb-false t 112 e)) in
-            let s : 3 * t ≡ length a + 3 * (t - 112) = omega (arith, la, ltb-false t 112 e) in
-            omega (
-              arith,
-              ap (λ (k : ℕ). getD (a ++ b) k 0) s,
-              getD-append-add a b (3 * (t - 112)) 0,
-              at₂ q,
-              bits-at y (bits-take 162 (drop 270 block) (bits-drop 270 block block-plain)) (q .0),
-            )
-
-    pub decodes : nearest (disagreements speech 184 (motherOf block)) 184 ≡ speechWord channel
-    decodes =
-        ap (λ (r : List ℕ). nearest (λ v. distance disagrees r (encode (outputs speech) 0 v)) 184)
-        (take-all 552 (motherOf block) (omega (arith, mother-long block)))
-        ∙ undamaged disagrees 0 (λ r. r < 2) (λ r y z h k l p q. disagrees-tells r y z h k l p q) (outputs speech) 3 (omega arith) speech-wide speech-plain
-        (leads (1 ∷ 1 ∷ 1 ∷ 1 ∷ []) ((1 ∷ 1 ∷ 0 ∷ 1 ∷ 1 ∷ []) ∷ (1 ∷ 0 ∷ 1 ∷ 0 ∷ 1 ∷ []) ∷ [])) 184 (speechWord channel) (motherOf block) word-candidate
-        (omega (arith, mother-long block)) leading mother-zero
-
 -- ---- the whole slot
 read-bits : (w : List ℕ) → Bits w → map readBit w ≡ w
 read-bits [] b = refl
@@ -222,50 +134,103 @@ same-refl : (w : List ℕ) → sameBits w w ≡ true
 same-refl [] = refl
 same-refl (x ∷ w) = ap₂ both (eq-eqb x x refl) (same-refl w)
 
-module _ (kept : Kept) (start : ℕ) (codec : List ℕ) (long : 274 ≤ length codec) (plain : bitsOnly 274 codec ≡ true) where
+pub channel-long : (codec : List ℕ) → length (channelOf codec) ≡ 274
+channel-long codec = gather-length codecPlace 274 codec
+
+pub channel-plain : (codec : List ℕ) → 274 ≤ length codec → bitsOnly 274 codec ≡ true → Bits (channelOf codec)
+channel-plain codec long plain =
+    bits-tabulate (λ j. getD codec (codecPlace j) 0) 274
+    (λ j h. bits-only-at 274 (codecPlace j) codec plain (codec-within j h) (omega (arith, codec-within j h)))
+
+module _ (start : ℕ) (codec : List ℕ) (long : 274 ≤ length codec) (plain : bitsOnly 274 codec ≡ true) where
   abbrev channel : List ℕ
   channel = channelOf codec
 
-  pub channel-long : length channel ≡ 274
-  channel-long = gather-length codecPlace 274 codec
+  abbrev wide : length channel ≡ 274
+  wide = channel-long codec
 
-  pub channel-plain : Bits channel
-  channel-plain =
-      bits-tabulate (λ j. getD codec (codecPlace j) 0) 274
-      (λ j h. bits-only-at 274 (codecPlace j) codec plain (codec-within j h) (omega (arith, codec-within j h)))
+  abbrev bits : Bits channel
+  bits = channel-plain codec long plain
 
-  pub block-back : blockOf start (slot start codec) ≡ block channel channel-long channel-plain
+  abbrev air : List ℕ
+  air = slot start codec
+
+  block-back : blockOf start air ≡ block channel wide bits
   unfolding slot
-  block-back = block-of-air start (block channel channel-long channel-plain) (block-plain channel channel-long channel-plain) (block-whole channel channel-long channel-plain)
+  block-back = block-of-air start (block channel wide bits) (block-plain channel wide bits) (block-whole channel wide bits)
 
-  pub word-back : wordOf start (slot start codec) ≡ speechWord channel
+  candidate : Candidate 184 (speechWord channel)
+  candidate = word-candidate channel wide bits
+
+  clean : Undamaged (speechChannel start (λ l. l)) (speechWord channel) air
+  clean = slot-carries start codec
+
+  no-distance : disagreements speech 184 (motherOf (blockOf start air)) (speechWord channel) ≡ 0
+  no-distance =
+      weighs start (λ l. l) air (slot-long start codec) (speechWord channel) (candidate .len)
+      ∙ undamaged-free (speechChannel start (λ l. l)) Any (lawful start (λ l. l)) air (speechWord channel) clean
+
+  pub word-back : wordOf start (slot start codec) ≡ speechWord (channelOf codec)
   unfolding wordOf
   word-back =
-      ap (λ (l : List ℕ). nearest (disagreements speech 184 (motherOf l)) 184) block-back ∙ decodes channel channel-long channel-plain kept
+      decoded-undamaged speech tt 184 (motherOf (blockOf start air)) (speechWord channel) candidate (omega (arith, mother-long (blockOf start air)))
+      (λ t h. route-known (route start (λ l. l) air (slot-long start codec)) (λ r. r < 2) (speechWord channel) clean
+      (λ j l. omega (arith, symbol-bit (getD (sentWord start (speechWord channel)) (codedPlace j) 0) (output start (codedPlace j)) (sent-bit start (speechWord channel) (codedPlace j)) (output-lt start (codedPlace j))))
+      (3 * t) (mother-first t h)) no-distance
 
   pub count-back : slotDisagreements start (slot start codec) ≡ 0
   unfolding slotDisagreements
-  count-back =
-      ap₂ (λ (l w : List ℕ). disagreements speech 184 (motherOf l) w) block-back word-back
-      ∙ ap (λ (r : List ℕ). distance disagrees r (encode (outputs speech) 0 (speechWord channel)))
-      (take-all 552 (motherOf (block channel channel-long channel-plain)) (omega (arith, mother-long (block channel channel-long channel-plain))))
-      ∙ mother-zero channel channel-long channel-plain kept
+  count-back = ap (disagreements speech 184 (motherOf (blockOf start air))) word-back ∙ no-distance
 
   pub good-back : isGood start (slot start codec) ≡ true
   unfolding isGood
   good-back =
       ap (λ (w : List ℕ). sameBits (take 8 (drop 172 w)) (speechCheck (take 60 (drop 112 w)))) word-back
-      ∙ ap₂ (λ (x y : List ℕ). sameBits x (speechCheck y)) (check-of channel channel-long channel-plain) (second-of channel channel-long channel-plain)
-      ∙ same-refl (speechCheck (second channel channel-long channel-plain))
+      ∙ ap₂ (λ (x y : List ℕ). sameBits x (speechCheck y)) (check-of channel wide bits) (second-of channel wide bits)
+      ∙ same-refl (speechCheck (second channel wide bits))
 
   pub codec-back : codecBits start (slot start codec) ≡ take 274 codec
   unfolding codecBits
   codec-back =
       ap₂ (λ (l w : List ℕ). codecOf (map readBit (take 102 l) ++ take 172 w) (replicate 274 0)) block-back word-back
       ∙ ap₂ (λ (x y : List ℕ). codecOf (x ++ y) (replicate 274 0))
-      (ap (map readBit) (take-at (uncoded channel) (codedOf (speechWord channel)) 102 (uncoded-long channel channel-long channel-plain))
-      ∙ read-bits (uncoded channel) (bits-take 102 channel channel-plain))
-      (both-of channel channel-long channel-plain)
-      ∙ ap (λ (l : List ℕ). codecOf l (replicate 274 0)) (classes channel channel-long channel-plain)
+      (ap (map readBit) (take-at (uncoded channel) (codedOf (speechWord channel)) 102 (uncoded-long channel wide bits))
+      ∙ read-bits (uncoded channel) (bits-take 102 channel bits))
+      (both-of channel wide bits)
+      ∙ ap (λ (l : List ℕ). codecOf l (replicate 274 0)) (classes channel wide bits)
       ∙ codec-of-channel codec (replicate 274 0) long (omega (arith, length-replicate {A = ℕ} 274 0))
       ∙ written-whole (take 274 codec) (replicate 274 0) (length-take-le 274 codec long)
+
+-- ---- what `encode_tp` left in its target and `decode_tp` received under the same start
+module _ (start : ℕ) (codec air air′ target target′ trellis trellis′ : List ℕ) (answer : Received)
+    (sends : Sends 432 (slot start codec) codec air Done air′) (room : 274 ≤ length target) (steps : 184 ≤ length trellis)
+    (receives : Receives 432 start air′ (wholeSlot air′) target trellis answer target′ trellis′) where
+  none : sendRefusal 432 codec (length air) ≡ 0
+  none = done-accepted (sendRefusal 432 codec (length air)) (sends .answered)
+
+  sendable : SendAccepted 432 codec (length air)
+  sendable = send-accepted 432 codec (length air) none
+
+  on-air : air′ ≡ written (slot start codec) air
+  on-air = sends .target ∙ ap (λ (n : ℕ). unless n (written (slot start codec) air) air) none
+
+  as-sent : wholeSlot air′ ≡ slot start codec
+  as-sent = ap wholeSlot on-air ∙ take-at (slot start codec) (drop (length (slot start codec)) air) 432 (slot-long start codec)
+
+  enough : 432 ≤ length air′
+  enough = omega (arith, ap length on-air, written-length (slot start codec) air (omega (arith, slot-long start codec, sendable .room)), sendable .room)
+
+  unrefused : receiveRefusal 432 (length air′) (length target) (length trellis) ≡ 0
+  unrefused = rw (le-ltb (length air′) 432 enough, le-ltb (length target) 274 room, le-ltb (length trellis) 184 steps)
+
+  pub round-trip-answer : answer ≡ Good (record { disagreements = 0 })
+  round-trip-answer =
+      receives .answered
+      ∙ ap₂ (λ (n : ℕ) (l : List ℕ). reception n (isGood start l) (countsOf start l)) unrefused as-sent
+      ∙ ap₂ (λ (g : Bool) (c : ℕ). checked g (record { disagreements = c })) (good-back start codec (sendable .long) (sendable .plain)) (count-back start codec (sendable .long) (sendable .plain))
+
+  pub round-trip-codec : target′ ≡ written (take 274 codec) target
+  round-trip-codec =
+      receives .target
+      ∙ ap₂ (λ (n : ℕ) (l : List ℕ). unless n (written (codecBits start l) target) target) unrefused as-sent
+      ∙ ap (λ (b : List ℕ). written b target) (codec-back start codec (sendable .long) (sendable .plain))

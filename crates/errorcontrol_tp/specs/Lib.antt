@@ -1,2 +1,2 @@
 pub mod Speech
-pub mod OnAir
+pub mod Hearing

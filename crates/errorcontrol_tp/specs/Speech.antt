@@ -81,9 +81,13 @@ readBit (suc (suc r)) = 0
 unfoldable pub wordOf : ℕ → List ℕ → List ℕ
 wordOf start air = decoded speech 184 (motherOf (blockOf start air))
 
--- the 274 codec bits that the decoded word and the uncoded places hold
+-- the 274 codec bits that a word and the uncoded places hold
+abbrev pub codecFrom : ℕ → List ℕ → List ℕ → List ℕ
+codecFrom start air w = codecOf (map readBit (take 102 (blockOf start air)) ++ take 172 w) (replicate 274 0)
+
+-- those of the decoded word
 unfoldable pub codecBits : ℕ → List ℕ → List ℕ
-codecBits start air = codecOf (map readBit (take 102 (blockOf start air)) ++ take 172 (wordOf start air)) (replicate 274 0)
+codecBits start air = codecFrom start air (wordOf start air)
 
 -- entry by entry the same
 abbrev pub sameBits : List ℕ → List ℕ → Bool

@@ -1,10 +1,10 @@
 -- The list of candidates holds each candidate and nothing else, in the order of the tie rule.
 -- Assumes nothing.
 use mathlib.Core.Path.{_≡_, refl, sym, ap, _∙_, subst, subst₂}
-use mathlib.Core.List.{List, [], _∷_, _++_, map, reverse, reverse-reverse, List·Memᴰ, List·Memᴰ·append-cases, List·Memᴰ·eq-of-singleton, Memᴰ·cast, Memᴰ·append-left, Memᴰ·append-right, Memᴰ·map, Memᴰ·of-map}
+use mathlib.Core.List.{List, [], _∷_, _++_, map, reverse, reverse-append, reverse-reverse, List·Memᴰ, List·Memᴰ·append-cases, List·Memᴰ·eq-of-singleton, Memᴰ·cast, Memᴰ·append-left, Memᴰ·append-right, Memᴰ·map, Memᴰ·of-map}
 use mathlib.Core.Logic.{inl, inr, ⊎-elim}
 use mathlib.Core.Bool.{Bool, true, false}
-use Prim.Native.Nat.{ℕ, zero, suc, _-_, _<_, min}
+use Prim.Native.Nat.{ℕ, zero, suc, _+_, _-_, _<_, min}
 use native.Mathlib.Omega.{arith}
 use lib.Dec.{ltb}
 use borrow.Author.Tests.{ltb-true, ltb-false}
@@ -115,3 +115,12 @@ candidates-sorted n =
 pub zeros-candidate : (n : ℕ) → Candidate n (replicate n 0)
 zeros-candidate n =
     record { len = zeros-length n; bits = zeros-bits n; tail = λ i h. ap (λ (l : List ℕ). getD l i 0) (zeros-reverse n) ∙ zeros-at n i }
+
+-- bits with four zeros behind them
+pub tailed-candidate : (front : List ℕ) (n : ℕ) → Bits front → length front + 4 ≡ n → Candidate n (front ++ replicate 4 0)
+tailed-candidate front n b e =
+    record {
+      len = length-append front (replicate 4 0) ∙ e;
+      bits = bits-append front (replicate 4 0) b (zeros-bits 4);
+      tail = λ i h. ap (λ (l : List ℕ). getD l i 0) (reverse-append front (replicate 4 0)) ∙ List·getD-append (replicate 4 0) (reverse front) 0 i h ∙ zeros-at 4 i;
+    }

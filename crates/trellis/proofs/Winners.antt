@@ -4,18 +4,16 @@ use mathlib.Core.Path.{_≡_, refl, sym, ap, _∙_, subst}
 use mathlib.Core.List.{List, [], _∷_, reverse, reverse-reverse, List·Memᴰ, List·Memᴰ·cases-cons, List·Memᴰ·not-nil}
 use mathlib.Core.Logic.{_⊎_, inl, inr, ⊎-elim}
 use mathlib.Core.Bool.{Bool, true, false, cond}
-use Prim.Native.Nat.{ℕ, zero, suc, _+_, _*_, _≤_, _<_}
+use Prim.Native.Nat.{ℕ, zero, suc, _+_, _≤_, _<_}
 use native.Mathlib.Omega.{arith}
 use lib.Dec.{ltb}
 use borrow.Author.Tests.{ltb-true, ltb-false}
 use lib.ListN.{length, replicate, length-reverse}
 use Rattle.base.specs.Bits.{Bits}
-use Rattle.trellis.specs.Nearest.{encode, distance, candidates, firstLeast, nearest, Lex, Candidate, Before, Winner}
-use Rattle.trellis.specs.Toward.{Toward}
+use Rattle.trellis.specs.Nearest.{candidates, firstLeast, nearest, Lex, Candidate, Before, Winner}
 use Rattle.trellis.proofs.Order.{lex-refl, lex-trans, lex-antisym, lex-zeros, Sorted}
 use Rattle.trellis.proofs.Candidates.{candidates-of, candidates-in, candidates-sorted, zeros-candidate}
 use Rattle.trellis.proofs.Words.{zeros-reverse}
-use Rattle.trellis.proofs.Encoding.{encode-bits, encode-length}
 
 -- ---- the winner is one
 pub winner-unique : (far : List ℕ → ℕ) (n : ℕ) (w v : List ℕ) → Winner far n w → Winner far n v → w ≡ v
@@ -148,33 +146,3 @@ keeps f g n h =
     go v i b true e = inl (ltb-true (g (nearest f n)) (g v) e)
     go v i (inl b) false e = absurd (omega (arith, ltb-false (g (nearest f n)) (g v) e))
     go v i (inr b) false e = inr (omega (arith, ltb-false (g (nearest f n)) (g v) e), b .1)
-
-pub toward : {A : Type 0} (m : A → ℕ → ℕ) (rs ss : List A) (ys zs : List ℕ) → Toward m rs ss ys → Bits zs → length ys ≡ length zs
-    → distance m rs zs + distance m ss ys ≤ distance m ss zs + distance m rs ys
-toward m [] [] ys zs t b e = omega arith
-toward m [] (s ∷ ss) ys zs t b e = absurd t
-toward m (r ∷ rs) [] ys zs t b e = absurd t
-toward m (r ∷ rs) (s ∷ ss) [] zs t b e = absurd t
-toward m (r ∷ rs) (s ∷ ss) (y ∷ ys) [] t b e = omega arith
-toward m (r ∷ rs) (s ∷ ss) (y ∷ ys) (z ∷ zs) t b e =
-    omega (arith, t .0 z (b .0), toward m rs ss ys zs (t .1) (b .1) (omega arith))
-
--- symbols that change toward what the nearest word sends leave it the nearest
-pub steady : (out : ℕ → List ℕ) (k : ℕ) → ((x : ℕ) → length (out x) ≡ k) → ((x : ℕ) → Bits (out x))
-    → {A : Type 0} (m : A → ℕ → ℕ) (n : ℕ) (r s : List A)
-    → Toward m r s (encode out 0 (nearest (λ v. distance m r (encode out 0 v)) n))
-    → nearest (λ v. distance m s (encode out 0 v)) n ≡ nearest (λ v. distance m r (encode out 0 v)) n
-steady out k wide plain m n r s t =
-    keeps (λ v. distance m r (encode out 0 v)) (λ v. distance m s (encode out 0 v)) n
-    (λ v c. toward m r s (encode out 0 w) (encode out 0 v) t (encode-bits out plain 0 v)
-    (omega (
-      arith,
-      encode-length out k wide 0 w,
-      encode-length out k wide 0 v,
-      nearest-length (λ v. distance m r (encode out 0 v)) n,
-      c .len,
-      ap (λ (l : ℕ). k * l) (nearest-length (λ v. distance m r (encode out 0 v)) n ∙ sym (c .len)),
-    )))
-  where
-    w : List ℕ
-    w = nearest (λ v. distance m r (encode out 0 v)) n

@@ -1,3 +1,2 @@
 pub mod Nearest
-pub mod Toward
 pub mod Trellis

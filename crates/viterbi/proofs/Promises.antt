@@ -2,90 +2,79 @@
 -- Assumes nothing.
 use mathlib.Core.Path.{_≡_, refl, sym, ap, _∙_, subst}
 use mathlib.Core.List.{List, [], _∷_}
-use mathlib.Core.Logic.{_⊎_, inl, inr, ⊎-elim}
 use Prim.Native.Nat.{ℕ, zero, suc, _+_, _*_, _/_, _%_, _≤_, _<_}
 use native.Mathlib.Nat.{mul-suc, mul-le-mul-left}
 use native.Mathlib.Omega.{arith}
 use lib.ListN.{length, getD}
 use lib.Seq.{getD-take, length-take-le}
-use Rattle.base.specs.Bits.{Bits, disagrees, known}
+use Rattle.base.specs.Bits.{disagrees, known}
 use Rattle.base.specs.Digits.{digits}
-use Rattle.trellis.specs.Nearest.{encode, Candidate, Winner}
-use Rattle.trellis.specs.Toward.{Toward}
-use Rattle.trellis.proofs.Encoding.{distance-most, encode-bits}
-use Rattle.trellis.proofs.Winners.{nearest-wins, winner-nearest, steady}
+use Rattle.base.specs.Places.{written}
+use Rattle.base.specs.Refusal.{unless}
+use Rattle.base.proofs.BitLaws.{bits-at}
+use Rattle.trellis.specs.Nearest.{encode, Candidate}
+use Rattle.trellis.proofs.Encoding.{distance-most, distance-take, encode-bits, encode-length}
 use Rattle.trellis.proofs.Undamaged.{undamaged}
-use Rattle.convenc.specs.Generators.{dot, tapped, outputs}
-use Rattle.viterbi.specs.Decoding.{used, disagreements, decoded, unerased}
+use Rattle.air.specs.Channel.{sum}
+use Rattle.air.specs.Demand.{HeardRight, itself}
+use Rattle.air.proofs.Sums.{distance-sum}
+use Rattle.air.proofs.Symbols.{disagrees-tells}
+use Rattle.air.proofs.Channel.{Weighs, Decoder, heard-right}
+use Rattle.air.proofs.Hard.{Any, hard-lawful}
+use Rattle.convenc.specs.Generators.{dot, tapped, outputs, control, speech}
+use Rattle.viterbi.specs.declared.Decoded.the-variants.{Word}
+use Rattle.viterbi.specs.Decoding.{used, disagreements, decoded, unerased, decodeRefusal, answer}
+use Rattle.viterbi.specs.Hearing.{motherCode, Unrefused}
 use Rattle.viterbi.proofs.Codes.{outputs-length, outputs-bits}
 use Rattle.viterbi.proofs.Counts.{each-known}
+use Rattle.viterbi.proofs.Refusals.{accepts}
 
-module _ (code : List (List ℕ)) (n : ℕ) (src : List ℕ) where
-  -- ---- one word meets the promise
-  pub decoded-wins : Winner (disagreements code n src) n (decoded code n src)
-  decoded-wins = nearest-wins (disagreements code n src) n
+-- ---- the count is at most the number of unerased symbols
+pub count-le : (code : List (List ℕ)) (n : ℕ) (src : List ℕ) → disagreements code n src (decoded code n src) ≤ unerased code n src
+count-le code n src =
+    distance-most disagrees known (used code n src) (encode (outputs code) 0 (decoded code n src)) (each-known (used code n src))
+    (encode-bits (outputs code) (outputs-bits code) 0 (decoded code n src))
 
-  pub decoded-only : (w : List ℕ) → Winner (disagreements code n src) n w → w ≡ decoded code n src
-  decoded-only w h = winner-nearest (disagreements code n src) n w h
+-- ---- demand 3
+pub mother-weighs : (code : List (List ℕ)) (n : ℕ) (src : List ℕ) → length code * n ≤ length src → Weighs (motherCode code n) src (disagreements code n src)
+mother-weighs code n src room w e =
+    distance-take disagrees (length code * n) src sent (omega (arith, long)) ∙ distance-sum disagrees 0 src sent (omega (arith, long))
+    ∙ ap (sum (λ i. disagrees (getD src i 0) (getD sent i 0))) long
+  where
+    sent : List ℕ
+    sent = encode (outputs code) 0 w
 
-  -- ---- the count is at most the number of unerased symbols
-  pub count-le : disagreements code n src (decoded code n src) ≤ unerased code n src
-  count-le =
-      distance-most disagrees known (used code n src) (encode (outputs code) 0 (decoded code n src)) (each-known (used code n src))
-      (encode-bits (outputs code) (outputs-bits code) 0 (decoded code n src))
+    long : length sent ≡ length code * n
+    long = encode-length (outputs code) (length code) (outputs-length code) 0 w ∙ ap (λ (k : ℕ). length code * k) e
 
-  -- ---- symbols that change toward what the word sends leave it
-  pub decoded-steady : (src′ : List ℕ) → Toward disagrees (used code n src) (used code n src′) (encode (outputs code) 0 (decoded code n src)) → decoded code n src′ ≡ decoded code n src
-  decoded-steady src′ t = steady (outputs code) (length code) (outputs-length code) (outputs-bits code) disagrees n (used code n src) (used code n src′) t
+-- the answer Word says that nothing was refused
+pub word-accepted : (number count least : ℕ) → Word count ≡ answer number least → (number ≡ 0) × (count ≡ least)
+word-accepted zero count least e = (refl, cc)
+word-accepted (suc number) count least e = let z : _≡_ {A = ℕ} 0 1 = cc in absurd (omega arith)
 
--- ---- what changes toward a sent bit y: nothing, or the symbol becomes y, or a disagreeing symbol is erased
-abbrev pub Mends : ℕ → ℕ → ℕ → Type 0
-Mends r s y = (s ≡ r) ⊎ (s ≡ y) ⊎ ((2 ≤ s) × (disagrees r y ≡ 1))
+decoder : (code : List (List ℕ)) (n : ℕ) → Decoder (motherCode code n) Any (Unrefused code n) itself (disagreements code n)
+decoder code n =
+    record {
+      lawful = hard-lawful n (length code * n) (λ j. j) (λ w x. getD (encode (outputs code) 0 w) x 0) (λ (src : List ℕ) x. getD src x 0)
+          (λ w j h. bits-at (encode (outputs code) 0 w) (encode-bits (outputs code) (outputs-bits code) 0 w) j);
+      fits = λ src count target target′ u j h. tt;
+      weighs = λ src count target target′ u. mother-weighs code n src (accepts n (length src) (length (u .trellis)) (length target) code (sym (none src count target target′ u .0)) .1);
+      writes = λ src count target target′ u. u .call .writes ∙ ap (λ (k : ℕ). unless k (written (decoded code n src) target) target) (none src count target target′ u .0);
+      counts = λ src count target target′ u. none src count target target′ u .1;
+    }
+  where
+    none : (src : List ℕ) (count : ℕ) (target target′ : List ℕ) → (u : Unrefused code n src count target target′)
+        → (decodeRefusal code n (length src) (length (u .trellis)) (length target) ≡ 0) × (count ≡ disagreements code n src (decoded code n src))
+    none src count target target′ u =
+        word-accepted (decodeRefusal code n (length src) (length (u .trellis)) (length target)) count (disagreements code n src (decoded code n src)) (u .call .answers)
 
-most-one : (r y : ℕ) → y < 2 → disagrees r y ≤ 1
-most-one zero y h = omega arith
-most-one (suc zero) zero h = omega arith
-most-one (suc zero) (suc y) h = omega arith
-most-one (suc (suc r)) y h = omega arith
+pub dec-sb1-right : (n : ℕ) (src : List ℕ) (count : ℕ) (target target′ : List ℕ) → Unrefused control n src count target target′
+    → HeardRight (motherCode control n) (Unrefused control n) itself src count target target′
+dec-sb1-right n = heard-right (decoder control n)
 
-agrees : (y : ℕ) → y < 2 → disagrees y y ≡ 0
-agrees zero h = refl
-agrees (suc zero) h = refl
-agrees (suc (suc y)) h = absurd (omega arith)
-
-differs : (y z : ℕ) → y < 2 → z < 2 → (z ≡ y) ⊎ (disagrees y z ≡ 1)
-differs zero zero h k = inl refl
-differs zero (suc zero) h k = inr refl
-differs zero (suc (suc z)) h k = absurd (omega arith)
-differs (suc zero) zero h k = inr refl
-differs (suc zero) (suc zero) h k = inl refl
-differs (suc zero) (suc (suc z)) h k = absurd (omega arith)
-differs (suc (suc y)) z h k = absurd (omega arith)
-
-erased-free : (s y : ℕ) → 2 ≤ s → disagrees s y ≡ 0
-erased-free zero y h = absurd (omega arith)
-erased-free (suc zero) y h = absurd (omega arith)
-erased-free (suc (suc s)) y h = refl
-
-pub mends-toward : (r s y : ℕ) → y < 2 → Mends r s y → (z : ℕ) → z < 2 → disagrees r z + disagrees s y ≤ disagrees s z + disagrees r y
-mends-toward r s y h (inl e) z k = omega (arith, ap (λ (x : ℕ). disagrees x y) e, ap (λ (x : ℕ). disagrees x z) e)
-mends-toward r s y h (inr (inl e)) z k =
-    ⊎-elim (λ q. omega (arith, ap (disagrees r) q, ap (λ (x : ℕ). disagrees x y) e, agrees y h))
-    (λ q. omega (arith, most-one r z k, ap (λ (x : ℕ). disagrees x y) e, ap (λ (x : ℕ). disagrees x z) e, agrees y h)) (differs y z h k)
-mends-toward r s y h (inr (inr e)) z k = omega (arith, erased-free s y (e .0), erased-free s z (e .0), e .1, most-one r z k)
-
--- at each place
-pub mended : (rs ss ys : List ℕ) → length rs ≡ length ys → length ss ≡ length ys → Bits ys
-    → ((i : ℕ) → i < length ys → Mends (getD rs i 0) (getD ss i 0) (getD ys i 0)) → Toward disagrees rs ss ys
-mended [] [] [] p q b h = tt
-mended [] [] (y ∷ ys) p q b h = absurd (omega arith)
-mended [] (s ∷ ss) [] p q b h = absurd (omega arith)
-mended [] (s ∷ ss) (y ∷ ys) p q b h = absurd (omega arith)
-mended (r ∷ rs) [] [] p q b h = absurd (omega arith)
-mended (r ∷ rs) [] (y ∷ ys) p q b h = absurd (omega arith)
-mended (r ∷ rs) (s ∷ ss) [] p q b h = absurd (omega arith)
-mended (r ∷ rs) (s ∷ ss) (y ∷ ys) p q b h =
-    (mends-toward r s y (b .0) (h 0 (omega arith)), mended rs ss ys (omega arith) (omega arith) (b .1) (λ i l. h (suc i) (omega arith)))
+pub dec-speech-right : (n : ℕ) (src : List ℕ) (count : ℕ) (target target′ : List ℕ) → Unrefused speech n src count target target′
+    → HeardRight (motherCode speech n) (Unrefused speech n) itself src count target target′
+dec-speech-right n = heard-right (decoder speech n)
 
 -- ---- an undamaged word is decoded as it was sent
 -- the first generator has the coefficient 1 at D^0
@@ -123,13 +112,10 @@ some : (code : List (List ℕ)) → Leading code → 0 < length code
 some [] l = absurd l
 some (g ∷ gs) l = omega arith
 
-bit-tells : (a y z : ℕ) → a < 2 → y < 2 → z < 2 → disagrees a y ≡ 0 → disagrees a z ≡ 0 → y ≡ z
-bit-tells a y z h k l p q = ⊎-elim (λ e. ⊎-elim (λ f. e ∙ sym f) (λ f. absurd (omega arith)) (differs a z h l)) (λ e. absurd (omega arith)) (differs a y h k)
-
 pub decoded-undamaged : (code : List (List ℕ)) → Leading code → (n : ℕ) (src w : List ℕ) → Candidate n w → length code * n ≤ length src
     → ((i : ℕ) → i < n → getD src (length code * i) 0 < 2) → disagreements code n src w ≡ 0 → decoded code n src ≡ w
 decoded-undamaged code l n src w c room first zero-far =
-    undamaged disagrees 0 (λ a. a < 2) bit-tells (outputs code) (length code) (some code l) (outputs-length code) (outputs-bits code) (leads code l) n w (used code n src) c
+    undamaged disagrees 0 (λ a. a < 2) disagrees-tells (outputs code) (length code) (some code l) (outputs-length code) (outputs-bits code) (leads code l) n w (used code n src) c
     (omega (arith, length-take-le (length code * n) src room))
     (λ i h. subst (λ (a : ℕ). a < 2) (sym (getD-take (length code * n) src (length code * i) 0 (place i h))) (first i h)) zero-far
   where

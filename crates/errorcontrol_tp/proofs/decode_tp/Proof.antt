@@ -3,7 +3,7 @@ use mathlib.Core.Path.{sym, _∙_}
 use lib.ListN.{length, take}
 use lib.Seq.{length-take-le}
 use Rattle.errorcontrol_tp.proofs.Answers.{receive-refused, receive-done}
-use Rattle.errorcontrol_tp.proofs.Chains.{receive-accepted}
+use Rattle.errorcontrol_tp.proofs.Refusals.{receive-accepted}
 use native.Mathlib.Omega.{arith}
 use borrow.Author.Needs.{needs}
 use Rattle.errorcontrol_tp.proofs.decode_tp.Statement.{statement}

@@ -7,7 +7,8 @@ use Rattle.errorcontrol_tp.specs.Speech.{supplied, isGood, countsOf, cod
 use Rattle.base.specs.Refusal.{checked}
 use Rattle.base.specs.Places.{written}
 use Rattle.errorcontrol_tp.proofs.Answers.{receive-refused, receive-done}
-use Rattle.errorcontrol_tp.proofs.Chains.{receive-accepted, half-made, half-long}
+use Rattle.errorcontrol_tp.proofs.Refusals.{receive-accepted, half-long}
+use Rattle.errorcontrol_tp.proofs.Chains.{half-made}
 use native.Mathlib.Omega.{arith}
 use borrow.Author.Needs.{needs}
 use Rattle.errorcontrol_tp.proofs.decode_tp_half.Statement.{statement}

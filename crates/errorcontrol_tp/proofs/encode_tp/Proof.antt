@@ -7,7 +7,9 @@ use lib.Seq.{length-take-le, take-all}
 use Rattle.base.specs.Places.{written}
 use Rattle.base.proofs.Refusals.{refused, done}
 use Rattle.errorcontrol_tp.specs.Speech.{slot, secondHalf}
-use Rattle.errorcontrol_tp.proofs.Chains.{send-accepted, slot-long, copied-over}
+use Rattle.errorcontrol_tp.proofs.Refusals.{send-accepted}
+use Rattle.errorcontrol_tp.proofs.Air.{slot-long}
+use Rattle.errorcontrol_tp.proofs.Chains.{copied-over}
 use native.Mathlib.Omega.{arith}
 use borrow.Author.Needs.{needs}
 use Rattle.errorcontrol_tp.proofs.encode_tp.Statement.{statement}

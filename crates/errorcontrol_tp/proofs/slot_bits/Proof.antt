@@ -4,7 +4,7 @@ use mathlib.Core.List.{List}
 use Prim.Native.Nat.{ℕ}
 use Rattle.base.specs.Bits.{Bits}
 use Rattle.errorcontrol_tp.proofs.RoundTrip.{channel-plain, block-plain}
-use Rattle.errorcontrol_tp.proofs.Chains.{kept, class2-plain, block-is, slot-is}
+use Rattle.errorcontrol_tp.proofs.Chains.{class2-plain, block-is, slot-is}
 use native.Mathlib.Omega.{arith}
 use borrow.Author.Needs.{needs}
 use Rattle.errorcontrol_tp.proofs.slot_bits.Statement.{statement}
@@ -29,7 +29,7 @@ class2-bits-requires c κs = search needs
 mother-bits-requires : tie.Need-mother-bits-requires
 mother-bits-requires c κs =
     let a = c .before .before .before in
-    let plain = subst (λ (l : List ℕ). Bits l) (sym (c .before .channel-bits .ensures)) (channel-plain kept 0 (a .args .codec .now) (a .pre .0) (a .pre .1)) in
+    let plain = subst (λ (l : List ℕ). Bits l) (sym (c .before .channel-bits .ensures)) (channel-plain (a .args .codec .now) (a .pre .0) (a .pre .1)) in
     (plain, class2-plain (c .before .channel-bits .result) (c .class2-bits .result) plain (c .class2-bits .ensures))
 
 -- src/lib.rt:239:21
@@ -42,7 +42,7 @@ air-bits-requires c κs =
     let a = c .before .before .before .before .before .before .before in
     let channel = c .before .before .before .before .before .channel-bits in
     let mothers = c .before .before .before .mother-bits in
-    let plain = subst (λ (l : List ℕ). Bits l) (sym (channel .ensures)) (channel-plain kept 0 (a .args .codec .now) (a .pre .0) (a .pre .1)) in
+    let plain = subst (λ (l : List ℕ). Bits l) (sym (channel .ensures)) (channel-plain (a .args .codec .now) (a .pre .0) (a .pre .1)) in
     subst (λ (l : List ℕ). Bits l)
     (sym (block-is (channel .result) (c .before .before .before .before .class2-bits .result) (mothers .result .first) (mothers .result .second) (c .block-bits .result) (search needs) (c .before .before .before .before .class2-bits .ensures) (mothers .ensures) (c .block-bits .ensures)))
     (block-plain (channel .result) (search needs) plain)
