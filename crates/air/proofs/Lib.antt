@@ -1,6 +1,6 @@
 pub mod Sums
 pub mod Symbols
-pub mod Passing
+pub mod Moved
 pub mod Channel
 pub mod Route
 pub mod Pieces

@@ -6,7 +6,7 @@ use mathlib.Core.List.{List}
 use Prim.Native.Nat.{ℕ, _<_}
 use lib.ListN.{length}
 use Rattle.base.specs.Places.{Apart, Within}
-use Rattle.air.specs.Channel.{Channel, sum, distanceOf, Undamaged}
+use Rattle.air.specs.Channel.{Channel, distanceOf, Undamaged}
 use Rattle.air.proofs.Sums.{sum-same, sum-places}
 
 -- none of the first k places is x

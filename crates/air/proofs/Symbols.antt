@@ -3,10 +3,7 @@
 use mathlib.Core.Path.{_≡_, refl}
 use Prim.Native.Nat.{ℕ, zero, suc, _+_, _≤_, _<_}
 use native.Mathlib.Omega.{arith}
-use Rattle.base.specs.Bits.{ERASED, disagrees}
-
-pub disagrees-erased : (y : ℕ) → disagrees ERASED y ≡ 0
-disagrees-erased y = refl
+use Rattle.base.specs.Bits.{disagrees}
 
 pub disagrees-self : (y : ℕ) → y < 2 → disagrees y y ≡ 0
 disagrees-self zero h = refl

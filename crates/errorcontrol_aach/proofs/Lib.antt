@@ -1,3 +1,4 @@
 pub mod Numbers
 pub mod Chains
 pub mod AccessLaws
+pub mod Examples

@@ -24,7 +24,7 @@ use Rattle.interleaver.specs.Interleaving.{place, shared, blockRefusal, interle
 use Rattle.interleaver.proofs.Block.{block-apart, block-within, block-onto}
 use Rattle.scrambler.specs.Scrambling.{sendRefusal, scrambled, descrambled}
 use Rattle.scrambler.proofs.Blocks.{descrambled-length}
-use Rattle.air.proofs.Passing.{gather-bits, scatter-bits}
+use Rattle.air.proofs.Moved.{gather-bits, scatter-bits}
 use Rattle.errorcontrol_cp.specs.Sending.{MODE, wordOf}
 use Rattle.errorcontrol_cp.proofs.Words.{word-length, word-bits}
 

@@ -12,7 +12,7 @@ use Rattle.base.specs.Bits.{Bits, ERASED, disagrees}
 use Rattle.base.specs.Places.{written}
 use Rattle.base.specs.Refusal.{unless}
 use Rattle.base.proofs.BitLaws.{bits-at}
-use Rattle.base.proofs.Moves.{scatter-length, scatter-hit, scatter-miss, gather-at}
+use Rattle.base.proofs.Moves.{Onto, scatter-length, scatter-hit, scatter-miss, gather-at}
 use Rattle.trellis.specs.Nearest.{encode}
 use Rattle.trellis.proofs.Winners.{nearest-length, nearest-bits}
 use Rattle.convenc.specs.Generators.{control, outputs}
@@ -62,6 +62,10 @@ pub lawful : (kind start : ℕ) → Lawful (controlChannel kind start) Any
 lawful kind start =
     hard-lawful (wordBits kind) (airSymbols kind) (place (airSymbols kind) (interleaverStep kind)) (λ w x. getD (sent kind start w) x 0) (λ (air : List ℕ) x. getD air x 0)
     (λ w j h. bits-at (sent kind start w) (sent-bits kind start w) (place (airSymbols kind) (interleaverStep kind) j))
+
+-- every place of the air carries a coded symbol
+pub every-place : (kind : ℕ) → isKind kind ≡ true → Onto (place (airSymbols kind) (interleaverStep kind)) (airSymbols kind)
+every-place kind valid = ground kind valid .moved-onto
 
 -- ---- what is received
 pub mother-length : (kind start : ℕ) (air : List ℕ) → length (mother kind start air) ≡ 4 * wordBits kind

@@ -1,12 +1,12 @@
 -- The word of a data block, and when a word is Good.
 -- Assumes nothing.
-use mathlib.Core.Path.{_≡_, refl, sym, ap, _∙_}
+use mathlib.Core.Path.{_≡_, sym, ap, _∙_}
 use mathlib.Core.List.{List, [], _∷_, _++_, append-assoc}
 use mathlib.Core.Bool.{true}
-use Prim.Native.Nat.{ℕ, zero, suc, _+_, _≤_, _<_}
+use Prim.Native.Nat.{ℕ, _+_, _≤_}
 use native.Mathlib.Omega.{arith}
 use borrow.Author.Tests.{eq-eqb, eqb-true}
-use lib.ListN.{length, take, drop, getD, replicate, length-append, length-drop}
+use lib.ListN.{length, take, drop, length-append, length-drop}
 use lib.Seq.{take-at, take-add, drop-at, length-take-le, getD-take, getD-drop}
 use Rattle.base.specs.Bits.{Bits}
 use Rattle.base.proofs.BitLaws.{bits-append, bits-at, bits-of}

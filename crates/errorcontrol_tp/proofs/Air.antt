@@ -10,7 +10,7 @@ use Rattle.base.specs.Bits.{Bits}
 use Rattle.base.specs.Places.{gather, scatter}
 use Rattle.base.proofs.Moves.{gather-length, gather-at, scatter-length, scatter-hit, gather-scatter}
 use Rattle.trellis.proofs.Words.{zeros-bits}
-use Rattle.air.proofs.Passing.{scatter-bits}
+use Rattle.air.proofs.Moved.{scatter-bits}
 use Rattle.interleaver.specs.Interleaving.{turned, matrixInterleaved}
 use Rattle.interleaver.proofs.Matrix.{matrix-within, matrix-apart}
 use Rattle.scrambler.specs.Scrambling.{scrambled, descrambled, descrambledSymbol, output}
@@ -22,10 +22,6 @@ use Rattle.errorcontrol_tp.specs.Hearing.{codedPlace, sentWord}
 -- the air place of block entry i
 abbrev pub airPlace : ℕ → ℕ
 airPlace = turned 24 18
-
-pub block-long : (start : ℕ) (air : List ℕ) → length (blockOf start air) ≡ 432
-unfolding blockOf
-block-long start air = gather-length airPlace 432 (descrambled start air)
 
 pub block-at : (start : ℕ) (air : List ℕ) → length air ≡ 432 → (i : ℕ) → i < 432
     → getD (blockOf start air) i 0 ≡ descrambledSymbol (getD air (airPlace i) 0) (output start (airPlace i))

@@ -2,20 +2,17 @@
 -- Assumes nothing.
 use mathlib.Core.Path.{_≡_, refl, sym, ap, ap₂, _∙_, subst}
 use mathlib.Core.List.{List, [], _∷_, _++_, map, append-assoc, append-nil}
-use mathlib.Core.Bool.{Bool, true, false, not}
-use Prim.Native.Nat.{ℕ, zero, suc, _+_, _-_, _*_, _≤_, _<_}
+use Prim.Native.Nat.{ℕ, _+_, _*_, _≤_}
 use native.Mathlib.Omega.{arith}
-use lib.Dec.{ltb}
-use borrow.Author.Tests.{ltb-false, not-false, le-ltb}
+use borrow.Author.Tests.{le-ltb}
 use borrow.Rule.Slice.PartMut.{putMid}
 use lib.ListN.{length, take, drop, replicate, length-append, length-drop, length-replicate}
-use lib.Seq.{length-take-le, take-all, take-at, drop-at, drop-length, drop-drop}
+use lib.Seq.{length-take-le, take-all, take-at, drop-at, drop-length}
 use Rattle.base.specs.Refusal.{unless, accepted}
-use Rattle.base.specs.Bits.{Bits, bitsOnly, ERASED}
+use Rattle.base.specs.Bits.{Bits, ERASED}
 use Rattle.base.specs.Places.{written}
 use Rattle.base.proofs.BitLaws.{bits-append}
 use Rattle.base.proofs.Moves.{gather-length, scatter-length, scatter-over}
-use Rattle.base.proofs.Refusals.{passed}
 use Rattle.base.proofs.Lists.{written-whole}
 use Rattle.trellis.specs.Nearest.{encode, after}
 use Rattle.convenc.specs.Generators.{outputs, speech, encodeRefusal, InTurn}
@@ -34,9 +31,8 @@ use Rattle.trellis.proofs.Winners.{nearest-length}
 use Rattle.viterbi.specs.declared.Decoded.{Decoded}
 use Rattle.viterbi.specs.declared.Decoded.the-variants.{Word, Refused}
 use Rattle.viterbi.specs.Decoding.{decodeRefusal, Decodes, decoded, disagreements, cleared}
-use Rattle.errorcontrol_tp.specs.Speech.{uncoded, speechWord, codedOf, motherOf, onAir, slot, sendRefusal, receiveRefusal, blockOf, wordOf, slotDisagreements, sameBits, isGood, countsOf, codecBits, readBit, supplied}
+use Rattle.errorcontrol_tp.specs.Speech.{uncoded, speechWord, codedOf, motherOf, onAir, slot, blockOf, wordOf, slotDisagreements, sameBits, isGood, countsOf, codecBits, readBit, supplied}
 use Rattle.errorcontrol_tp.proofs.Mother.{bits-take, mother-long}
-use Rattle.errorcontrol_tp.proofs.Air.{air-long}
 use Rattle.errorcontrol_tp.proofs.Parts.{whole, made}
 
 -- ---- an array written in parts

@@ -2,12 +2,12 @@
 -- Assumes nothing.
 use mathlib.Core.Path.{_≡_, refl, sym, ap, ap₂, _∙_}
 use mathlib.Core.List.{List, [], _∷_, _++_}
-use Prim.Native.Nat.{ℕ, zero, suc, _+_, _-_, _*_, _≤_, _<_}
+use Prim.Native.Nat.{ℕ, zero, suc, _+_, _-_, _*_, _<_}
 use native.Mathlib.Omega.{arith}
 use lib.Dec.{ltb}
 use borrow.Author.Tests.{ltb-true, ltb-false}
 use mathlib.Core.Bool.{Bool, true, false}
-use lib.ListN.{length, take, drop, replicate, getD, length-append, length-drop, length-replicate, getD-replicate, take-append-drop, List·getD-append}
+use lib.ListN.{length, take, drop, replicate, getD, length-append, length-replicate, getD-replicate, take-append-drop, List·getD-append}
 use lib.Seq.{length-take-le, getD-take, getD-drop, getD-append-add}
 use Rattle.base.specs.Bits.{Bits, ERASED, disagrees}
 use Rattle.base.specs.Places.{Apart, Within}
@@ -15,7 +15,7 @@ use Rattle.base.proofs.Moves.{gather-length, gather-at, scatter-length, scatter
 use Rattle.trellis.specs.Nearest.{encode}
 use Rattle.trellis.proofs.Words.{bits-drop}
 use Rattle.base.proofs.BitLaws.{bits-append}
-use Rattle.air.proofs.Passing.{gather-bits}
+use Rattle.air.proofs.Moved.{gather-bits}
 use Rattle.air.proofs.Route.{Missed}
 use Rattle.air.proofs.Pieces.{joined, joined-first, joined-rest, joined-apart, joined-within, joined-at, joined-missed}
 use Rattle.convenc.specs.Generators.{outputs, speech}

@@ -2,7 +2,7 @@
 -- Assumes nothing.
 use mathlib.Core.Path.{_≡_, refl, sym, ap, ap₂, _∙_}
 use mathlib.Core.List.{List, [], _∷_, _++_, map, append-assoc, append-nil}
-use Prim.Native.Nat.{ℕ, zero, suc, _+_, _-_, _≤_, _<_}
+use Prim.Native.Nat.{ℕ, zero, suc, _+_, _≤_, _<_}
 use native.Mathlib.Omega.{arith}
 use lib.Dec.{eqb}
 use borrow.Author.Tests.{le-ltb, eq-eqb, ne-eqb}
@@ -14,7 +14,7 @@ use Rattle.base.specs.Refusal.{unless, when, accepted, BIT}
 use Rattle.base.specs.Bits.{Bits, both, bitsOnly}
 use Rattle.base.proofs.BitLaws.{bits-only-yes}
 use Rattle.base.proofs.Moves.{gather-length}
-use Rattle.air.proofs.Passing.{scatter-bits}
+use Rattle.air.proofs.Moved.{scatter-bits}
 use Rattle.interleaver.specs.Interleaving.{matrixInterleaved, matrixDeinterleaved, matrixRefusal}
 use Rattle.scrambler.specs.Scrambling.{scrambled, descrambled, sendRefusal}
 use Rattle.scrambler.proofs.Blocks.{descrambled-length}
@@ -25,7 +25,7 @@ use Rattle.base.specs.Places.{written, tabulate}
 use Rattle.base.proofs.Lists.{written-whole, tabulate-of}
 use Rattle.speech_crc.specs.Check.{speechCheck, checkRefusal}
 use Rattle.speech_crc.proofs.Shape.{check-length}
-use Rattle.tch_reorder.specs.Order.{channelOf, codecOf, reorderRefusal}
+use Rattle.tch_reorder.specs.Order.{codecOf, reorderRefusal}
 
 -- a target that is as long as what is written, where nothing is refused
 pub whole : (number : ℕ) (new old left : List ℕ) → number ≡ 0 → length new ≡ length old → left ≡ unless number (written new old) old → left ≡ new

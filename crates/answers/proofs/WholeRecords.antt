@@ -1,0 +1,85 @@
+-- The records' table of symbols and the chains' own counts are one: a whole record is never SHORT for its chain, and one symbol less is.
+-- Assumes nothing.
+use mathlib.Core.Path.{_≡_, refl, sym, ap, _∙_}
+use mathlib.Core.List.{List}
+use mathlib.Core.Bool.{Bool, true, false, not}
+use Prim.Native.Nat.{ℕ, zero, suc, _≤_, _<_}
+use native.Mathlib.Omega.{arith}
+use borrow.Author.Tests.{lt-ltb, le-ltb, ne-eqb}
+use lib.ListN.{length, take, drop, length-drop}
+use Rattle.base.specs.declared.Counts.{Counts}
+use Rattle.base.specs.Bits.{bitsOnly}
+use Rattle.base.specs.Refusal.{SHORT, BIT, accepted, when, reception}
+use Rattle.records.specs.Kinds.{symbolsOf, bodyLength, START-BYTES}
+use Rattle.rm3014.specs.declared.Verdict.{Verdict}
+use Rattle.rm3014.specs.Verdict.{judged}
+use Rattle.errorcontrol_aach.specs.Access.{received}
+use Rattle.errorcontrol_cp.specs.Kinds.{isKind, wordBits, airSymbols}
+use Rattle.errorcontrol_cp.specs.Receiving as control
+use Rattle.errorcontrol_tp.specs.Speech as speech
+use Rattle.answers.specs.Chains.{WORD, CODEC, TRELLIS, controlAnswer, slotAnswer, halfAnswer}
+use Rattle.answers.specs.Answering.{ofReceived, ofJudged, startOf, chainOf, answerOf}
+use Rattle.answers.specs.declared.Answer.the-variants.{Refused}
+
+-- a receive chain that refuses nothing does not answer SHORT
+heard-not-short : (number : ℕ) (good : Bool) (counts : Counts) → number ≡ accepted → ofReceived (reception number good counts) ≡ Refused SHORT → ⊥
+heard-not-short zero true counts e f = let z : _≡_ {A = ℕ} 0 1 = cc in omega arith
+heard-not-short zero false counts e f = let z : _≡_ {A = ℕ} 0 1 = cc in omega arith
+heard-not-short (suc number) good counts e f = omega arith
+
+-- nor does the access field's, where it refuses nothing but entries that are no bits
+judged-not-short : (plain : Bool) (v : Verdict) → ofJudged (judged (when (not plain) BIT accepted) v) ≡ Refused SHORT → ⊥
+judged-not-short true v f = let z : _≡_ {A = ℕ} 0 1 = cc in omega arith
+judged-not-short false v f = let z : _≡_ {A = ℕ} BIT SHORT = cc in omega arith
+
+module _ (start : ℕ) (air : List ℕ) where
+  control-not-short : (kind : ℕ) → control.receiveRefusal kind (length air) WORD WORD ≡ accepted → ofReceived (controlAnswer kind start air) ≡ Refused SHORT → ⊥
+  unfolding controlAnswer
+  control-not-short kind e =
+      heard-not-short (control.receiveRefusal kind (length air) WORD WORD) (control.good kind (control.wordFrom kind start air)) (control.countsOf kind start air) e
+
+  -- ---- as many symbols as the record's kind says
+  pub chain-not-short : (kind : ℕ) → (symbolsOf kind ≡ 0 → ⊥) → length air ≡ symbolsOf kind → chainOf kind start air ≡ Refused SHORT → ⊥
+  unfolding symbolsOf chainOf slotAnswer halfAnswer isKind wordBits airSymbols
+  chain-not-short zero k e = absurd (k refl)
+  chain-not-short (suc zero) k e = control-not-short 1 (ap (λ (n : ℕ). control.receiveRefusal 1 n WORD WORD) e)
+  chain-not-short (suc (suc zero)) k e = control-not-short 2 (ap (λ (n : ℕ). control.receiveRefusal 2 n WORD WORD) e)
+  chain-not-short (suc (suc (suc zero))) k e = control-not-short 3 (ap (λ (n : ℕ). control.receiveRefusal 3 n WORD WORD) e)
+  chain-not-short (suc (suc (suc (suc zero)))) k e = control-not-short 4 (ap (λ (n : ℕ). control.receiveRefusal 4 n WORD WORD) e)
+  chain-not-short (suc (suc (suc (suc (suc zero))))) k e =
+      λ f. judged-not-short (bitsOnly 30 air) (received start air) (rw (le-ltb (length air) 30 (omega arith)) at f)
+  chain-not-short (suc (suc (suc (suc (suc (suc zero)))))) k e =
+      heard-not-short (speech.receiveRefusal 432 (length air) CODEC TRELLIS) (speech.isGood start (take 432 air)) (speech.countsOf start (take 432 air))
+      (ap (λ (n : ℕ). speech.receiveRefusal 432 n CODEC TRELLIS) e)
+  chain-not-short (suc (suc (suc (suc (suc (suc (suc zero))))))) k e =
+      heard-not-short (speech.receiveRefusal 216 (length air) CODEC TRELLIS) (speech.isGood start (speech.supplied air)) (speech.countsOf start (speech.supplied air))
+      (ap (λ (n : ℕ). speech.receiveRefusal 216 n CODEC TRELLIS) e)
+  chain-not-short (suc (suc (suc (suc (suc (suc (suc (suc kind)))))))) k e = absurd (k refl)
+
+  -- ---- fewer
+  pub chain-short : (kind : ℕ) → length air < symbolsOf kind → chainOf kind start air ≡ Refused SHORT
+  unfolding symbolsOf chainOf controlAnswer slotAnswer halfAnswer isKind airSymbols
+  chain-short zero h = absurd (omega arith)
+  chain-short (suc zero) h = rw (lt-ltb (length air) 120 h)
+  chain-short (suc (suc zero)) h = rw (lt-ltb (length air) 168 h)
+  chain-short (suc (suc (suc zero))) h = rw (lt-ltb (length air) 216 h)
+  chain-short (suc (suc (suc (suc zero)))) h = rw (lt-ltb (length air) 432 h)
+  chain-short (suc (suc (suc (suc (suc zero))))) h = rw (lt-ltb (length air) 30 h)
+  chain-short (suc (suc (suc (suc (suc (suc zero)))))) h = rw (lt-ltb (length air) 432 h)
+  chain-short (suc (suc (suc (suc (suc (suc (suc zero))))))) h = rw (lt-ltb (length air) 216 h)
+  chain-short (suc (suc (suc (suc (suc (suc (suc (suc kind)))))))) h = absurd (omega arith)
+
+-- ---- a record's body
+module _ (kind : ℕ) (known : symbolsOf kind ≡ 0 → ⊥) (body : List ℕ) where
+  answer-is : START-BYTES ≤ length body → answerOf kind body ≡ chainOf kind (startOf body) (drop START-BYTES body)
+  unfolding answerOf
+  answer-is h = rw (ne-eqb (symbolsOf kind) 0 known, le-ltb (length body) START-BYTES h)
+
+  pub whole-never-short : length body ≡ bodyLength kind → answerOf kind body ≡ Refused SHORT → ⊥
+  whole-never-short e f =
+      chain-not-short (startOf body) (drop START-BYTES body) kind known (omega (arith, length-drop START-BYTES body))
+      (sym (answer-is (omega arith)) ∙ f)
+
+  pub less-is-short : START-BYTES ≤ length body → length body < bodyLength kind → answerOf kind body ≡ Refused SHORT
+  less-is-short h l =
+      answer-is h ∙ chain-short (startOf body) (drop START-BYTES body) kind (omega (arith, length-drop START-BYTES body))
