@@ -577,19 +577,18 @@ def loaded(tables, coding):
     return c
 
 
-def caught(tests, tables, coding, changed=None):
-    """Whether some test fails; whatever stops the program counts. The test that fails is tried first for the next fault."""
+def catcher(tables, coding, changed, first):
+    """The test that fails, or None; whatever stops the program counts, also where it is only loaded. What caught the fault before is
+    tried first: faults of one line are mostly caught by one test."""
+    test = loaded
     try:
         c = loaded(tables, coding)
-        if changed:
-            exec(changed, c.__dict__)
-        for place, test in enumerate(tests):
+        exec(changed, c.__dict__)
+        for test in ([first] if first in QUICK else []) + [test for test in QUICK if test is not first]:
             test(c)
     except (Wrong, ArithmeticError, AssertionError, LookupError, NameError, TypeError, ValueError):
-        if "place" in locals():
-            tests.insert(0, tests.pop(place))
-        return True
-    return False
+        return test
+    return None
 
 
 # Faults that change no answer: room, entries, candidates or steps that nothing uses.
@@ -652,19 +651,19 @@ def faults(name, tree):
 def planted(names):
     trees = {name: source(name) for name in ("tables.py", "coding.py")}
     right = {name: compile(tree, name, "exec") for name, tree in trees.items()}
-    tests = list(QUICK)
-    if caught(tests, right["tables.py"], right["coding.py"]):
+    if catcher(right["tables.py"], right["coding.py"], "", None):
         sys.exit("selftest: the tests fail before anything is planted")
-    tried, missed = 0, []
+    tried, missed, last = 0, [], None
     for name in names or trees:
         for where, statement in faults(name, trees[name]):
             tried += 1
             if name == "tables.py":
-                found = caught(tests, compile(trees[name], name, "exec"), right["coding.py"])
+                found = catcher(compile(trees[name], name, "exec"), right["coding.py"], "", last)
             else:
-                found = caught(tests, right["tables.py"], right["coding.py"], compile(statement, name, "exec"))
+                found = catcher(right["tables.py"], right["coding.py"], compile(statement, name, "exec"), last)
             if not found:
                 missed.append(where)
+            last = found
     for where in missed:
         print("not caught: " + where)
     print("%d faults planted in %s, %d not caught" % (tried, " and ".join(names or trees), len(missed)))
