@@ -26,15 +26,15 @@ use Rattle.crc16.specs.Crc.{check}
 use Rattle.viterbi.specs.Decoding.{disagreements}
 use Rattle.viterbi.specs.Hearing.{motherCode}
 use Rattle.viterbi.proofs.Promises.{mother-weighs}
-use Rattle.air.specs.Demand.{HeardRight, itself}
+use Rattle.air.specs.Demand.{Unrefused, HeardRight, itself}
 use Rattle.air.proofs.Answers.{received-accepted}
 use Rattle.air.proofs.Channel.{Weighs, Lawful, Decoder, heard-right}
 use Rattle.air.proofs.Hard.{Any, hard-lawful}
 use Rattle.air.proofs.Route.{Route, route-distance}
 use Rattle.errorcontrol_cp.specs.Kinds.{isKind, dataBits, wordBits, airSymbols, interleaverStep}
 use Rattle.errorcontrol_cp.specs.Sending.{MODE, coded, sent}
-use Rattle.errorcontrol_cp.specs.Receiving.{heard, mother, wordFrom, disagreementsOf, countsOf, good, receiveRefusal}
-use Rattle.errorcontrol_cp.specs.Hearing.{controlChannel, Unrefused}
+use Rattle.errorcontrol_cp.specs.Receiving.{heard, mother, wordFrom, disagreementsOf, countsOf, good, receiveRefusal, Receives}
+use Rattle.errorcontrol_cp.specs.Hearing.{controlChannel}
 use Rattle.errorcontrol_cp.proofs.Rows.{row}
 use Rattle.errorcontrol_cp.proofs.Words.{good-check}
 use Rattle.errorcontrol_cp.proofs.Refusals.{ReceiveAccepted, receive-accepts}
@@ -129,7 +129,7 @@ module _ (kind : ℕ) (valid : isKind kind ≡ true) (start : ℕ) (air : List �
       (omega (arith, nearest-length (disagreements control (wordBits kind) (mother kind start air)) (wordBits kind), row kind valid .word))
 
 -- ---- demand 3
-module _ {kind start : ℕ} {air : List ℕ} {count : ℕ} {word word′ : List ℕ} (u : Unrefused kind start air count word word′) where
+module _ {kind start : ℕ} {air : List ℕ} {count : ℕ} {word word′ : List ℕ} (u : Unrefused (Receives kind start) air count word word′) where
   -- the number that was not given
   abbrev refusal : ℕ
   refusal = receiveRefusal kind (length air) (length word) (length (u .trellis))
@@ -146,7 +146,7 @@ module _ {kind start : ℕ} {air : List ℕ} {count : ℕ} {word word′ : List 
   pub counts-word : count ≡ disagreementsOf kind start air
   counts-word = u .counted ∙ ap (λ (c : Counts). c .disagreements) (unrefused .1)
 
-decoder : (kind start : ℕ) → Decoder (controlChannel kind start) Any (Unrefused kind start) itself (λ air. disagreements control (wordBits kind) (mother kind start air))
+decoder : (kind start : ℕ) → Decoder (controlChannel kind start) Any (Unrefused (Receives kind start)) itself (λ air. disagreements control (wordBits kind) (mother kind start air))
 unfolding wordFrom disagreementsOf
 decoder kind start =
     record {
@@ -157,6 +157,6 @@ decoder kind start =
       counts = λ air count word word′ u. counts-word u;
     }
 
-pub decode-cp-right : (kind start : ℕ) (air : List ℕ) (count : ℕ) (word word′ : List ℕ) → Unrefused kind start air count word word′
-    → HeardRight (controlChannel kind start) (Unrefused kind start) itself air count word word′
+pub decode-cp-right : (kind start : ℕ) (air : List ℕ) (count : ℕ) (word word′ : List ℕ) → Unrefused (Receives kind start) air count word word′
+    → HeardRight (controlChannel kind start) (Unrefused (Receives kind start)) itself air count word word′
 decode-cp-right kind start = heard-right (decoder kind start)

@@ -20,13 +20,13 @@ use Rattle.scrambler.proofs.Blocks.{symbol-disagrees}
 use Rattle.viterbi.specs.Decoding.{disagreements}
 use Rattle.viterbi.specs.Hearing.{motherCode}
 use Rattle.viterbi.proofs.Promises.{mother-weighs}
-use Rattle.air.specs.Demand.{HeardRight}
+use Rattle.air.specs.Demand.{Unrefused, HeardRight}
 use Rattle.air.proofs.Answers.{received-accepted}
 use Rattle.air.proofs.Channel.{Weighs, Lawful, Decoder, heard-right}
 use Rattle.air.proofs.Hard.{Any, hard-lawful}
 use Rattle.air.proofs.Route.{Route, route-distance}
 use Rattle.errorcontrol_tp.specs.Speech.{codedOf, blockOf, motherOf, wordOf, isGood, slotDisagreements, countsOf, codecBits, supplied, receiveRefusal}
-use Rattle.errorcontrol_tp.specs.Hearing.{codedPlace, sentWord, speechChannel, wholeSlot, codecWith, Unrefused}
+use Rattle.errorcontrol_tp.specs.Hearing.{codedPlace, sentWord, speechChannel, wholeSlot, codecWith, ReceivesAs}
 use Rattle.errorcontrol_tp.proofs.Mother.{mother-long, motherPlace, mother-apart, mother-within, coded-at, mother-at, mother-missed}
 use Rattle.errorcontrol_tp.proofs.Air.{block-at, air-bits, sent-symbol}
 use Rattle.errorcontrol_tp.proofs.Refusals.{ReceiveAccepted, receive-accepted, half-long}
@@ -61,7 +61,7 @@ module _ (start : ℕ) (slotOf : List ℕ → List ℕ) (air : List ℕ) (whole 
       mother-weighs speech 184 (motherOf (blockOf start (slotOf air))) (omega (arith, mother-long (blockOf start (slotOf air)))) w e ∙ route-distance route w e
 
 -- ---- demand 3
-module _ {size start : ℕ} {slotOf : List ℕ → List ℕ} {air : List ℕ} {count : ℕ} {codec codec′ : List ℕ} (u : Unrefused size start slotOf air count codec codec′) where
+module _ {size start : ℕ} {slotOf : List ℕ → List ℕ} {air : List ℕ} {count : ℕ} {codec codec′ : List ℕ} (u : Unrefused (ReceivesAs size start slotOf) air count codec codec′) where
   -- the number that was not given
   abbrev refusal : ℕ
   refusal = receiveRefusal size (length air) (length codec) (length (u .trellis))
@@ -80,7 +80,7 @@ module _ {size start : ℕ} {slotOf : List ℕ → List ℕ} {air : List ℕ} {c
 
 -- an entry that reads what it is given as a whole slot
 decoder : (size start : ℕ) (slotOf : List ℕ → List ℕ) → ((air : List ℕ) → size ≤ length air → length (slotOf air) ≡ 432)
-    → Decoder (speechChannel start slotOf) Any (Unrefused size start slotOf) (codecWith start slotOf)
+    → Decoder (speechChannel start slotOf) Any (Unrefused (ReceivesAs size start slotOf)) (codecWith start slotOf)
     (λ air. disagreements speech 184 (motherOf (blockOf start (slotOf air))))
 unfolding codecBits wordOf slotDisagreements
 decoder size start slotOf whole =
@@ -92,10 +92,10 @@ decoder size start slotOf whole =
       counts = λ air count codec codec′ u. counts-word u;
     }
 
-pub decode-tp-right : (start : ℕ) (air : List ℕ) (count : ℕ) (codec codec′ : List ℕ) → Unrefused 432 start wholeSlot air count codec codec′
-    → HeardRight (speechChannel start wholeSlot) (Unrefused 432 start wholeSlot) (codecWith start wholeSlot) air count codec codec′
+pub decode-tp-right : (start : ℕ) (air : List ℕ) (count : ℕ) (codec codec′ : List ℕ) → Unrefused (ReceivesAs 432 start wholeSlot) air count codec codec′
+    → HeardRight (speechChannel start wholeSlot) (Unrefused (ReceivesAs 432 start wholeSlot)) (codecWith start wholeSlot) air count codec codec′
 decode-tp-right start = heard-right (decoder 432 start wholeSlot (λ air h. length-take-le 432 air h))
 
-pub decode-tp-half-right : (start : ℕ) (air : List ℕ) (count : ℕ) (codec codec′ : List ℕ) → Unrefused 216 start supplied air count codec codec′
-    → HeardRight (speechChannel start supplied) (Unrefused 216 start supplied) (codecWith start supplied) air count codec codec′
+pub decode-tp-half-right : (start : ℕ) (air : List ℕ) (count : ℕ) (codec codec′ : List ℕ) → Unrefused (ReceivesAs 216 start supplied) air count codec codec′
+    → HeardRight (speechChannel start supplied) (Unrefused (ReceivesAs 216 start supplied)) (codecWith start supplied) air count codec codec′
 decode-tp-half-right start = heard-right (decoder 216 start supplied half-long)

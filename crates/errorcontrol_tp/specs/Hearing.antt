@@ -1,12 +1,9 @@
 -- A speech slot as demand 3 sees it: 330 of its 432 air symbols are coded, and the uncoded ones are outside it.
 -- Assumes nothing.
 use mathlib.Core.List.{List, _++_}
-use mathlib.Core.Bool.{Bool}
-use mathlib.Core.Path.{_≡_}
 use Prim.Native.Nat.{ℕ, _+_}
 use lib.ListN.{getD, replicate, take}
-use Rattle.base.specs.declared.Counts.{Counts}
-use Rattle.base.specs.Refusal.{checked}
+use Rattle.base.specs.declared.Received.{Received}
 use Rattle.interleaver.specs.Interleaving.{turned}
 use Rattle.air.specs.Channel.{Channel, hard}
 use Rattle.errorcontrol_tp.specs.Speech.{codedOf, onAir, codecFrom, Receives}
@@ -23,14 +20,9 @@ sentWord start w = onAir start (replicate 102 0 ++ codedOf w)
 abbrev pub speechChannel : ℕ → (List ℕ → List ℕ) → Channel (List ℕ) ℕ
 speechChannel start slotOf = hard 184 330 codedPlace (λ w x. getD (sentWord start w) x 0) (λ air x. getD (slotOf air) x 0)
 
--- a call that answered Good or Bad, with any trellis; the entry takes so many symbols
-pub record Unrefused (size start : ℕ) (slotOf : List ℕ → List ℕ) (air : List ℕ) (count : ℕ) (codec codec′ : List ℕ) : Type 0 where
-  pub good : Bool
-  pub counts : Counts
-  pub counted : count ≡ counts .disagreements
-  pub trellis : List ℕ
-  pub trellis′ : List ℕ
-  pub call : Receives size start air (slotOf air) codec trellis (checked good counts) codec′ trellis′
+-- an entry that takes so many symbols and reads them as a slot
+abbrev pub ReceivesAs : ℕ → ℕ → (List ℕ → List ℕ) → List ℕ → List ℕ → List ℕ → Received → List ℕ → List ℕ → Type 0
+ReceivesAs size start slotOf air = Receives size start air (slotOf air)
 
 -- the first 432 symbols, for the whole slot
 abbrev pub wholeSlot : List ℕ → List ℕ

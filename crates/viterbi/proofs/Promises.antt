@@ -24,7 +24,7 @@ use Rattle.air.proofs.Hard.{Any, hard-lawful}
 use Rattle.convenc.specs.Generators.{dot, tapped, outputs, control, speech}
 use Rattle.viterbi.specs.declared.Decoded.the-variants.{Word}
 use Rattle.viterbi.specs.Decoding.{used, disagreements, decoded, unerased, decodeRefusal, answer}
-use Rattle.viterbi.specs.Hearing.{motherCode, Unrefused}
+use Rattle.viterbi.specs.Hearing.{motherCode, AnsweredWord}
 use Rattle.viterbi.proofs.Codes.{outputs-length, outputs-bits}
 use Rattle.viterbi.proofs.Counts.{each-known}
 use Rattle.viterbi.proofs.Refusals.{accepts}
@@ -52,7 +52,7 @@ pub word-accepted : (number count least : ℕ) → Word count ≡ answer number 
 word-accepted zero count least e = (refl, cc)
 word-accepted (suc number) count least e = let z : _≡_ {A = ℕ} 0 1 = cc in absurd (omega arith)
 
-decoder : (code : List (List ℕ)) (n : ℕ) → Decoder (motherCode code n) Any (Unrefused code n) itself (disagreements code n)
+decoder : (code : List (List ℕ)) (n : ℕ) → Decoder (motherCode code n) Any (AnsweredWord code n) itself (disagreements code n)
 decoder code n =
     record {
       lawful = hard-lawful n (length code * n) (λ j. j) (λ w x. getD (encode (outputs code) 0 w) x 0) (λ (src : List ℕ) x. getD src x 0)
@@ -63,17 +63,17 @@ decoder code n =
       counts = λ src count target target′ u. none src count target target′ u .1;
     }
   where
-    none : (src : List ℕ) (count : ℕ) (target target′ : List ℕ) → (u : Unrefused code n src count target target′)
+    none : (src : List ℕ) (count : ℕ) (target target′ : List ℕ) → (u : AnsweredWord code n src count target target′)
         → (decodeRefusal code n (length src) (length (u .trellis)) (length target) ≡ 0) × (count ≡ disagreements code n src (decoded code n src))
     none src count target target′ u =
         word-accepted (decodeRefusal code n (length src) (length (u .trellis)) (length target)) count (disagreements code n src (decoded code n src)) (u .call .answers)
 
-pub dec-sb1-right : (n : ℕ) (src : List ℕ) (count : ℕ) (target target′ : List ℕ) → Unrefused control n src count target target′
-    → HeardRight (motherCode control n) (Unrefused control n) itself src count target target′
+pub dec-sb1-right : (n : ℕ) (src : List ℕ) (count : ℕ) (target target′ : List ℕ) → AnsweredWord control n src count target target′
+    → HeardRight (motherCode control n) (AnsweredWord control n) itself src count target target′
 dec-sb1-right n = heard-right (decoder control n)
 
-pub dec-speech-right : (n : ℕ) (src : List ℕ) (count : ℕ) (target target′ : List ℕ) → Unrefused speech n src count target target′
-    → HeardRight (motherCode speech n) (Unrefused speech n) itself src count target target′
+pub dec-speech-right : (n : ℕ) (src : List ℕ) (count : ℕ) (target target′ : List ℕ) → AnsweredWord speech n src count target target′
+    → HeardRight (motherCode speech n) (AnsweredWord speech n) itself src count target target′
 dec-speech-right n = heard-right (decoder speech n)
 
 -- ---- an undamaged word is decoded as it was sent

@@ -13,7 +13,7 @@ abbrev pub motherCode : List (List ℕ) → ℕ → Channel (List ℕ) ℕ
 motherCode code n = hard n (length code * n) (λ j. j) (λ w x. getD (encode (outputs code) 0 w) x 0) (λ src x. getD src x 0)
 
 -- a call that answered Word, with any trellis
-pub record Unrefused (code : List (List ℕ)) (n : ℕ) (src : List ℕ) (count : ℕ) (target target′ : List ℕ) : Type 0 where
+pub record AnsweredWord (code : List (List ℕ)) (n : ℕ) (src : List ℕ) (count : ℕ) (target target′ : List ℕ) : Type 0 where
   pub trellis : List ℕ
   pub trellis′ : List ℕ
   pub call : Decodes code n src target target′ trellis trellis′ (Word count)
