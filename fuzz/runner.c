@@ -1,6 +1,7 @@
-/* The runner on any bytes at all. Its proved module is compiled with instrumentation; its `main`, `read`, `write` and `isatty` have other
- * names there (fuzz/run), so that it runs in this process on a recording that comes in pieces of any size, with interrupted calls
- * and with failures. What it writes is held to the lines that document 01 says, worked out here from the shipped library. */
+/* The runner on any bytes at all. Its proved module is compiled with instrumentation; its `main`, `read`, `write`, `close` and `isatty` have
+ * other names there (fuzz/run), so that it runs in this process on a recording that comes in pieces of any size, with interrupted calls
+ * and with failures. What it writes is held to the lines that document 01 says, worked out here from the shipped library, and the word
+ * on how it ended to what happened. */
 #include "../include/caplattice.h"
 #include "harness.h"
 
@@ -25,7 +26,12 @@ static struct {
     size_t written;
     char said[4096];
     size_t told;
+    char word[16];             /* what was written to the file that the argument names */
+    size_t spelt;
+    int is_open;
 } world;
+
+enum { ENDING = 3 };
 
 static size_t piece(size_t wanted)
 {
@@ -73,6 +79,13 @@ long fuzz_read(int from, void *buffer, size_t wanted)
 
 long fuzz_write(int to, const void *buffer, size_t wanted)
 {
+    if (to == ENDING && world.is_open) {
+        size_t room = sizeof world.word - 1 - world.spelt, size = piece(wanted);
+        size = size < room ? size : room;
+        memcpy(world.word + world.spelt, buffer, size);
+        world.spelt += size;
+        return (long)size;
+    }
     if (to != 1 && to != 2) {
         fprintf(stderr, "the runner writes to descriptor %d\n", to);
         abort();
@@ -113,9 +126,48 @@ int fuzz_isatty(int of)
     return world.terminal;
 }
 
+int fuzz_close(int of)
+{
+    world.is_open = 0;
+    return of == ENDING ? 0 : -1;
+}
+
 int rattle_errno(void)
 {
     return errno;
+}
+
+void rattle_set_errno(int error)
+{
+    errno = error;
+}
+
+/* The program's own name, and one argument. */
+size_t rattle_arg_count(void)
+{
+    return 2;
+}
+
+long rattle_arg(size_t which, char *buffer, size_t room)
+{
+    static const char name[] = "ending";
+    if (which != 1 || room < sizeof name - 1) {
+        fprintf(stderr, "the runner asks for argument %zu with room for %zu bytes\n", which, room);
+        abort();
+    }
+    memcpy(buffer, name, sizeof name - 1);
+    return sizeof name - 1;
+}
+
+int rattle_open_to_overwrite(const char *path, unsigned mode)
+{
+    (void)mode;
+    if (strcmp(path, "ending") != 0) {
+        fprintf(stderr, "the runner opens another file\n");
+        abort();
+    }
+    world.is_open = 1;
+    return ENDING;
 }
 
 /* ---- the lines that are owed */
@@ -152,20 +204,26 @@ static size_t a_line(char *out, size_t number, unsigned kind, uint64_t answer)
     return (size_t)sprintf(out, "%zu %02x %s %u\n", number, kind, words[of], caplattice_value(answer));
 }
 
+static const char *ending; /* the word for what `owed` was last asked of */
+
 /* The lines of the first `length` bytes; after a failed read neither a cut record nor an end is told. */
 static size_t owed(const uint8_t *recording, size_t length, int read_fails, char *out)
 {
     size_t at = 0, count = 0, n = 0;
+    ending = read_fails ? "unread\n" : "whole\n";
     while (at < length) {
         unsigned kind = recording[at];
         if (kind < 1 || kind > 7) {
             n += (size_t)sprintf(out + n, "%zu %02x unknown\n", count + 1, kind);
+            ending = "unknown\n";
             read_fails = 0;
             break;
         }
         if (length - at < 5 + symbols_of[kind]) {
-            if (!read_fails)
+            if (!read_fails) {
                 n += (size_t)sprintf(out + n, "%zu %02x short\n", count + 1, kind);
+                ending = "cut\n";
+            }
             break;
         }
         count++;
@@ -197,10 +255,13 @@ static int says(const char *words)
 static void run_once(void)
 {
     int read_fails = world.read_fails_at <= world.length;
-    world.at = world.written = world.told = 0;
+    world.at = world.written = world.told = world.spelt = 0;
     world.failed = 0;
     runner_main();
+    world.word[world.spelt] = 0;
     size_t due = owed(world.recording, read_fails ? world.read_fails_at : world.length, read_fails, lines);
+    if (strcmp(world.word, world.write_fails_at < due ? "unwritten\n" : ending) != 0)
+        broken("another word on how it ended", due);
     if (world.write_fails_at < due) {
         if (world.written != world.write_fails_at || memcmp(world.out, lines, world.written) != 0)
             broken("before a write failed it wrote something else", due);
