@@ -6,78 +6,58 @@ import sys
 
 sys.path.insert(0, os.path.join(os.path.dirname(os.path.abspath(__file__)), "..", "independent"))
 import record
+from record import table
 
-u8, u16, u32, size = ctypes.c_uint8, ctypes.c_uint16, ctypes.c_uint32, ctypes.c_size_t
-SOURCE, TARGET, TRELLIS, A, B, C, OTHER = "source target trellis a b c other".split()
+TYPES = {"u8": ctypes.c_uint8, "u16": ctypes.c_uint16, "u32": ctypes.c_uint32, "usize": ctypes.c_size_t}
+FUNCTIONS = {function.name: function for function in table.functions()}
 
-# For each entry its parameters in order: a slice, or a number and its type.
-REORDERING = [SOURCE, TARGET]
-INTERLEAVING = [(A, size), (B, size), SOURCE, TARGET]
-SENDING = [(A, u32), SOURCE, TARGET]
-RECEIVING = [(A, u32), SOURCE, TARGET, TRELLIS]
-PARAMETERS = {
-    "crc16_itut_bits": [(A, u16), SOURCE, (B, size)],
-    "crc16_itut_bytes": [(A, u16), SOURCE, (B, size)],
-    "crc16_ccitt_bits": [SOURCE, (A, size)],
-    "tetra_scramb_get_bits": [(A, u32), TARGET],
-    "tetra_scramb_bits": [(A, u32), TARGET],
-    "tetra_descramb_bits": [(A, u32), TARGET],
-    "tetra_scramb_get_init": [(A, u16), (B, u16), (C, u8)],
-    "block_interleave": INTERLEAVING,
-    "block_deinterleave": INTERLEAVING,
-    "matrix_interleave": INTERLEAVING,
-    "matrix_deinterleave": INTERLEAVING,
-    "tetra_rm3014_compute": [(A, u16)],
-    "tetra_rm3014_decode_naive": [(A, u32)],
-    "compute_syndrome": [(A, u32)],
-    "tetra_rm3014_decode_limited_ecc": [(A, u32)],
-    "codec_to_channel": REORDERING,
-    "channel_to_codec": REORDERING,
-    "encode": SENDING,
-    "encode_rate1_3": SENDING,
-    "encode_speech": SENDING,
-    "get_punctured_rate": [(A, u8), SOURCE, (B, size), TARGET],
-    "tetra_rcpc_depunct": [(A, u8), SOURCE, (B, size), TARGET],
-    "mother_memcmp": [SOURCE, OTHER],
-    "dec_sb1": [SOURCE, TARGET, (A, size), TRELLIS],
-    "dec_speech": [SOURCE, TARGET, (A, size), TRELLIS],
-    "speech_crc": REORDERING,
-    "encode_cp": [(A, u8), (B, u32), SOURCE, TARGET],
-    "decode_cp": [(A, u8), (B, u32), SOURCE, TARGET, TRELLIS],
-    "encode_tp": SENDING,
-    "encode_tp_half": SENDING,
-    "decode_tp": RECEIVING,
-    "decode_tp_half": RECEIVING,
-    "encode_aach": SENDING,
-    "decode_aach": [(A, u32), SOURCE],
-}
+
+class Answer(ctypes.Structure):
+    _fields_ = [(member, ctypes.c_uint64) for member in table.MEMBERS]
+
+
+def slices_of(function, r):
+    """The slices of a call, each with what it holds before. Of two sources the request's first number parts them."""
+    sources = [p.name for p in function.parameters if p.type == "&[u8]"]
+    parts = (r.source[: r.a], r.source[r.a:]) if len(sources) == 2 else (r.source,)
+    held = dict(zip(sources, parts))
+    lent = not sources
+    for parameter in function.parameters:
+        if parameter.type == "&mut [u8]":
+            held[parameter.name] = list(r.source) if lent else record.target_before(r.seed, r.target)
+        elif parameter.type == "&mut [u16]":
+            held[parameter.name] = record.trellis_before(r.seed, r.trellis)
+    return held
+
+
+def packed(function, number, said, r):
+    """A call's number and answer in the form of compare/FORMAT.md. Of value and disagreements one is always 0."""
+    if number:
+        stays = r.a if any(p.name == "delays" for p in function.parameters) else 0
+        return record.pack("refused", stays % 2**32, number)
+    return record.pack(record.CASES[said.verdict], (said.value + said.disagreements) % 2**32, said.place)
 
 
 def answered(library, r):
-    name = record.ENTRIES[r.entry]
-    lent = PARAMETERS[name] == [(A, u32), TARGET]
-    source, other = (r.source[: r.a], r.source[r.a:]) if name == "mother_memcmp" else (r.source, b"")
-    before = list(r.source) if lent else record.target_before(r.seed, r.target)
-    trellis_before = record.trellis_before(r.seed, r.trellis)
-    slices = {
-        SOURCE: (u8 * len(source))(*source),
-        OTHER: (u8 * len(other))(*other),
-        TARGET: (u8 * len(before))(*before),
-        TRELLIS: (u16 * len(trellis_before))(*trellis_before),
-    }
-    arguments = []
-    for parameter in PARAMETERS[name]:
-        if isinstance(parameter, str):
-            arguments += [slices[parameter], size(len(slices[parameter]))]
+    function = FUNCTIONS[record.ENTRIES[r.entry]]
+    before, numbers, said = slices_of(function, r), iter((r.a, r.b, r.c)), Answer()
+    held, arguments = {}, []
+    for parameter in function.parameters:
+        if parameter.type in TYPES:
+            arguments.append(TYPES[parameter.type](next(numbers)))
         else:
-            number, of_type = parameter
-            arguments.append(of_type(getattr(r, number)))
-    entry = getattr(library, "caplattice_" + name)
-    entry.restype = ctypes.c_uint64
-    answer = entry(*arguments)
-    zeroed = record.changed(trellis_before, list(slices[TRELLIS]))
+            entry = TYPES["u16" if "u16" in parameter.type else "u8"]
+            held[parameter.name] = (entry * len(before[parameter.name]))(*before[parameter.name])
+            arguments += [held[parameter.name], ctypes.c_size_t(len(before[parameter.name]))]
+    if function.says:
+        arguments.append(ctypes.byref(said))
+    call = getattr(library, "caplattice_" + function.name)
+    call.restype = ctypes.c_uint8
+    number = call(*arguments)
+    changed = {name: record.changed(list(before[name]), list(held[name])) for name in held}
+    zeroed, written = changed.get("trellis", []), changed.get("target", [])
     assert not any(zeroed)
-    return r._replace(answer=answer, written=bytes(record.changed(before, list(slices[TARGET]))), zeroed=len(zeroed))
+    return r._replace(answer=packed(function, number, said, r), written=bytes(written), zeroed=len(zeroed))
 
 
 def main():

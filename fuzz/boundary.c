@@ -5,37 +5,30 @@
  * For the instrumented module each slice is a heap block of exactly its length, so that the address sanitizer sees one byte too far.
  * The shipped library has no instrumentation: there each slice stands against a page that cannot be touched. */
 #include "../include/caplattice.h"
+#include "functions.h"
 #include "harness.h"
 
 #include <sys/mman.h>
 
-#define ENTRIES(X)                                                                                                                 \
-    X(crc16_itut_bits) X(crc16_itut_bytes) X(crc16_ccitt_bits) X(tetra_scramb_get_bits) X(tetra_scramb_bits)                          \
-    X(tetra_descramb_bits) X(tetra_scramb_get_init) X(block_interleave) X(block_deinterleave) X(matrix_interleave)                    \
-    X(matrix_deinterleave) X(tetra_rm3014_compute) X(tetra_rm3014_decode_naive) X(compute_syndrome)                                  \
-    X(tetra_rm3014_decode_limited_ecc) X(codec_to_channel) X(channel_to_codec) X(speech_crc) X(encode) X(encode_rate1_3)              \
-    X(encode_speech) X(get_punctured_rate) X(tetra_rcpc_depunct) X(mother_memcmp) X(dec_sb1) X(dec_speech) X(encode_cp)               \
-    X(decode_cp) X(encode_tp) X(encode_tp_half) X(decode_tp) X(decode_tp_half) X(encode_aach) X(decode_aach)
-
-#define NUMBER(name) ENTRY_##name,
+#define NUMBER(name, ...) ENTRY_##name,
 enum entry { ENTRIES(NUMBER) ENTRY_COUNT };
 
-#define NAME(name) #name,
+#define NAME(name, ...) #name,
 static const char *const names[] = {ENTRIES(NAME)};
 
-#define MEMBER(name) __typeof__(caplattice_##name) *name;
+#define MEMBER(name, ...) __typeof__(caplattice_##name) *name;
 struct library { ENTRIES(MEMBER) };
 
-#define OURS(name) .name = caplattice_##name,
+#define OURS(name, ...) .name = caplattice_##name,
 static const struct library instrumented = {ENTRIES(OURS)};
 
 /* fuzz/run gives the shipped library's functions a prefix; tests/boundary has the shipped library alone. */
 #ifdef SHIPPED_ALONE
 #define shipped instrumented
 #else
-#define SHIPPED(name) extern __typeof__(caplattice_##name) shipped_caplattice_##name;
+#define SHIPPED(name, ...) extern __typeof__(caplattice_##name) shipped_caplattice_##name;
 ENTRIES(SHIPPED)
-#define THEIRS(name) .name = shipped_caplattice_##name,
+#define THEIRS(name, ...) .name = shipped_caplattice_##name,
 static const struct library shipped = {ENTRIES(THEIRS)};
 #endif
 
@@ -61,47 +54,14 @@ struct call {
     struct slice slices[SLICES];
 };
 
-static uint64_t made(const struct library *lib, const struct call *c, uint8_t *const at[SLICES])
+static uint8_t made(const struct library *lib, const struct call *c, uint8_t *const at[SLICES], caplattice_answer *answer)
 {
     const uint8_t *s = at[SOURCE];
     uint8_t *t = at[TARGET];
     uint16_t *w = (uint16_t *)at[TRELLIS];
     size_t sn = c->slices[SOURCE].len, tn = c->slices[TARGET].len, wn = c->slices[TRELLIS].len;
     switch (c->entry) {
-    case ENTRY_crc16_itut_bits: return lib->crc16_itut_bits((uint16_t)c->word, s, sn, c->n);
-    case ENTRY_crc16_itut_bytes: return lib->crc16_itut_bytes((uint16_t)c->word, s, sn, c->n);
-    case ENTRY_crc16_ccitt_bits: return lib->crc16_ccitt_bits(s, sn, c->n);
-    case ENTRY_tetra_scramb_get_bits: return lib->tetra_scramb_get_bits(c->word, t, tn);
-    case ENTRY_tetra_scramb_bits: return lib->tetra_scramb_bits(c->word, t, tn);
-    case ENTRY_tetra_descramb_bits: return lib->tetra_descramb_bits(c->word, t, tn);
-    case ENTRY_tetra_scramb_get_init: return lib->tetra_scramb_get_init(c->mcc, c->mnc, c->small);
-    case ENTRY_block_interleave: return lib->block_interleave(c->n, c->m, s, sn, t, tn);
-    case ENTRY_block_deinterleave: return lib->block_deinterleave(c->n, c->m, s, sn, t, tn);
-    case ENTRY_matrix_interleave: return lib->matrix_interleave(c->n, c->m, s, sn, t, tn);
-    case ENTRY_matrix_deinterleave: return lib->matrix_deinterleave(c->n, c->m, s, sn, t, tn);
-    case ENTRY_tetra_rm3014_compute: return lib->tetra_rm3014_compute((uint16_t)c->word);
-    case ENTRY_tetra_rm3014_decode_naive: return lib->tetra_rm3014_decode_naive(c->word);
-    case ENTRY_compute_syndrome: return lib->compute_syndrome(c->word);
-    case ENTRY_tetra_rm3014_decode_limited_ecc: return lib->tetra_rm3014_decode_limited_ecc(c->word);
-    case ENTRY_codec_to_channel: return lib->codec_to_channel(s, sn, t, tn);
-    case ENTRY_channel_to_codec: return lib->channel_to_codec(s, sn, t, tn);
-    case ENTRY_speech_crc: return lib->speech_crc(s, sn, t, tn);
-    case ENTRY_encode: return lib->encode(c->word, s, sn, t, tn);
-    case ENTRY_encode_rate1_3: return lib->encode_rate1_3(c->word, s, sn, t, tn);
-    case ENTRY_encode_speech: return lib->encode_speech(c->word, s, sn, t, tn);
-    case ENTRY_get_punctured_rate: return lib->get_punctured_rate(c->small, s, sn, c->n, t, tn);
-    case ENTRY_tetra_rcpc_depunct: return lib->tetra_rcpc_depunct(c->small, s, sn, c->n, t, tn);
-    case ENTRY_mother_memcmp: return lib->mother_memcmp(s, sn, t, tn);
-    case ENTRY_dec_sb1: return lib->dec_sb1(s, sn, t, tn, c->n, w, wn);
-    case ENTRY_dec_speech: return lib->dec_speech(s, sn, t, tn, c->n, w, wn);
-    case ENTRY_encode_cp: return lib->encode_cp(c->small, c->word, s, sn, t, tn);
-    case ENTRY_decode_cp: return lib->decode_cp(c->small, c->word, s, sn, t, tn, w, wn);
-    case ENTRY_encode_tp: return lib->encode_tp(c->word, s, sn, t, tn);
-    case ENTRY_encode_tp_half: return lib->encode_tp_half(c->word, s, sn, t, tn);
-    case ENTRY_decode_tp: return lib->decode_tp(c->word, s, sn, t, tn, w, wn);
-    case ENTRY_decode_tp_half: return lib->decode_tp_half(c->word, s, sn, t, tn, w, wn);
-    case ENTRY_encode_aach: return lib->encode_aach(c->word, s, sn, t, tn);
-    case ENTRY_decode_aach: return lib->decode_aach(c->word, s, sn);
+        CALLS
     case ENTRY_COUNT: break;
     }
     abort();
@@ -248,29 +208,13 @@ static unsigned refusal_by_content(const struct call *c, const struct due *d)
     return 0;
 }
 
-/* Which of the slices an entry has. */
+/* Which of the slices an entry has, whether it has an answer, and its refusals. */
+#define HAS(name, refusals, source, target, trellis, answer) {{source, target, trellis}, answer, refusals},
+static const struct { unsigned char slices[SLICES], answer; const char *refusals; } shapes[] = {ENTRIES(HAS)};
+
 static int has(enum entry entry, int which)
 {
-    switch (entry) {
-    case ENTRY_tetra_scramb_get_init:
-    case ENTRY_tetra_rm3014_compute:
-    case ENTRY_tetra_rm3014_decode_naive:
-    case ENTRY_compute_syndrome:
-    case ENTRY_tetra_rm3014_decode_limited_ecc: return 0;
-    case ENTRY_crc16_itut_bits:
-    case ENTRY_crc16_itut_bytes:
-    case ENTRY_crc16_ccitt_bits:
-    case ENTRY_decode_aach: return which == SOURCE;
-    case ENTRY_tetra_scramb_get_bits:
-    case ENTRY_tetra_scramb_bits:
-    case ENTRY_tetra_descramb_bits: return which == TARGET;
-    case ENTRY_dec_sb1:
-    case ENTRY_dec_speech:
-    case ENTRY_decode_cp:
-    case ENTRY_decode_tp:
-    case ENTRY_decode_tp_half: return 1;
-    default: return which != TRELLIS;
-    }
+    return shapes[entry].slices[which];
 }
 
 /* ---- what the fuzzer's bytes mean */
@@ -306,7 +250,9 @@ static uint32_t word_for(struct bytes *b, enum entry entry)
     case ENTRY_tetra_rm3014_decode_limited_ecc: {
         if (any >> 30)
             return any >> 31 ? any : 0x3fffffff;
-        uint32_t word = caplattice_value(caplattice_tetra_rm3014_compute(any & 0x3fff));
+        caplattice_answer coded;
+        caplattice_tetra_rm3014_compute(any & 0x3fff, &coded);
+        uint32_t word = (uint32_t)coded.value;
         uint8_t wrong = taken(b);
         for (unsigned i = 0; i < wrong % 4; i++)
             word ^= 1u << taken(b) % 30;
@@ -405,32 +351,41 @@ static void broken(const char *what)
 }
 #define MUST(condition, what) ((condition) ? (void)0 : broken(what))
 
-static void check_answer(const struct call *c, uint64_t answer, unsigned refusal)
+/* What an answer holds before a call. */
+static const caplattice_answer untouched = {0xa5a5a5a5a5a5a5a5, 0x5a5a5a5a5a5a5a5a, 1, 2, 3, UINT64_MAX};
+
+static int same_answer(const caplattice_answer *a, const caplattice_answer *b)
 {
-    unsigned kind = caplattice_case_of(answer), number = caplattice_number(answer);
-    uint32_t value = caplattice_value(answer);
-    MUST(answer >> 48 == 0, "the answer has bits above those that are documented");
-    if (refusal) {
-        MUST(kind == CAPLATTICE_REFUSED && number == refusal, "another refusal than document 01's, or none");
-        MUST(value == (encodes(c->entry) ? c->word : 0), "a refusal's value is neither 0 nor the delays");
+    return memcmp(a, b, sizeof *a) == 0;
+}
+
+static void check_answer(const struct call *c, unsigned number, const caplattice_answer *said, unsigned refusal)
+{
+    MUST(number == refusal, refusal ? "another refusal than document 01's, or none" : "a refusal where document 01 has none");
+    if (refusal || !shapes[c->entry].answer) {
+        MUST(same_answer(said, &untouched), "an answer was changed by a refusal, or by an entry that has none");
         return;
     }
-    MUST(kind != CAPLATTICE_REFUSED, "a refusal where document 01 has none");
-    MUST(number == 0 || (kind == CAPLATTICE_MENDED && number <= 30), "a number beside an answer that has none");
-    MUST(kind != CAPLATTICE_MENDED || number > 0, "mended at no place");
+    MUST(said->erasures == 0 && said->bits == 0, "erasures or bits, which no entry counts");
+    MUST(said->place == 0 || (said->verdict == CAPLATTICE_MENDED && said->place <= 30), "a place beside an answer that has none");
+    MUST(said->verdict != CAPLATTICE_MENDED || said->place > 0, "mended at no place");
+    int decodes = has(c->entry, TRELLIS);
+    MUST(decodes ? said->value == 0 : said->disagreements == 0, "a member that the entry does not speak of is not 0");
     switch (c->entry) {
     case ENTRY_tetra_rm3014_decode_limited_ecc:
     case ENTRY_decode_aach:
-        MUST(kind >= CAPLATTICE_CLEAN && kind <= CAPLATTICE_BEYOND, "no verdict");
-        MUST(value < 16384, "data of more than 14 bits");
+        MUST(said->verdict >= CAPLATTICE_CLEAN && said->verdict <= CAPLATTICE_BEYOND, "no verdict");
+        MUST(said->value < 16384, "data of more than 14 bits");
         break;
     case ENTRY_mother_memcmp:
-        MUST(kind == CAPLATTICE_MATCHED || (kind == CAPLATTICE_DIFFERS && value == 0), "neither Matched nor Differs");
+        MUST(said->verdict == CAPLATTICE_MATCHED || (said->verdict == CAPLATTICE_DIFFERS && said->value == 0), "neither Matched nor Differs");
         break;
     case ENTRY_decode_cp:
     case ENTRY_decode_tp:
-    case ENTRY_decode_tp_half: MUST(kind == CAPLATTICE_GOOD || kind == CAPLATTICE_BAD, "neither Good nor Bad"); break;
-    default: MUST(kind == CAPLATTICE_DONE, "not Done");
+    case ENTRY_decode_tp_half:
+        MUST(said->verdict == CAPLATTICE_GOOD || said->verdict == CAPLATTICE_BAD, "neither Good nor Bad");
+        break;
+    default: MUST(said->verdict == CAPLATTICE_DONE, "not Done");
     }
 }
 
@@ -463,21 +418,22 @@ static int all_bits(const uint8_t *at, size_t length)
     return 1;
 }
 
-static uint32_t disagreeing(const uint8_t *sent, const uint8_t *symbols, size_t length)
+static uint64_t disagreeing(const uint8_t *sent, const uint8_t *symbols, size_t length)
 {
-    uint32_t count = 0;
+    uint64_t count = 0;
     for (size_t i = 0; i < length; i++)
         count += symbols[i] < 2 && symbols[i] != sent[i];
     return count;
 }
 
-static void check_laws(const struct call *c, const struct due *d, uint64_t answer)
+static void check_laws(const struct call *c, const struct due *d, const caplattice_answer *said)
 {
     const uint8_t *source = c->slices[SOURCE].before, *target = c->slices[TARGET].now;
     size_t sn = d->used[SOURCE], tn = d->used[TARGET];
-    uint32_t value = caplattice_value(answer);
-    int good = caplattice_case_of(answer) == CAPLATTICE_GOOD;
-    uint64_t back;
+    uint64_t value = said->value;
+    int good = said->verdict == CAPLATTICE_GOOD;
+    unsigned back;
+    caplattice_answer more = untouched;
     for (int which = 0; which < SLICES; which++)
         if (c->slices[which].unreal)
             return;
@@ -486,19 +442,21 @@ static void check_laws(const struct call *c, const struct due *d, uint64_t answe
     case ENTRY_crc16_ccitt_bits:
         MUST(value <= 0xffff, "a register of more than 16 bits");
         if (c->entry == ENTRY_crc16_ccitt_bits)
-            MUST(answer == caplattice_crc16_itut_bits(0xffff, source, c->slices[SOURCE].len, c->n), "not the register from 0xffff");
+            MUST(!caplattice_crc16_itut_bits(0xffff, source, c->slices[SOURCE].len, c->n, &more) && same_answer(said, &more),
+                 "not the register from 0xffff");
         break;
     case ENTRY_crc16_itut_bytes:
         for (size_t i = 0; i < c->n && i < ROOM_FOR_ANY; i++)
             scratch[0][i] = source[i / 8] >> (7 - i % 8) & 1;
         if (c->n <= ROOM_FOR_ANY)
-            MUST(answer == caplattice_crc16_itut_bits((uint16_t)c->word, scratch[0], c->n, c->n), "packed and unpacked bits differ");
+            MUST(!caplattice_crc16_itut_bits((uint16_t)c->word, scratch[0], c->n, c->n, &more) && same_answer(said, &more),
+                 "packed and unpacked bits differ");
         break;
     case ENTRY_tetra_scramb_get_bits: MUST(all_bits(target, tn), "an output is no bit"); break;
     case ENTRY_tetra_scramb_bits:
     case ENTRY_tetra_descramb_bits:
         memcpy(scratch[0], target, tn);
-        MUST(caplattice_case_of(caplattice_tetra_descramb_bits(c->word, scratch[0], tn)) == CAPLATTICE_DONE, "descrambling refuses");
+        MUST(caplattice_tetra_descramb_bits(c->word, scratch[0], tn) == 0, "descrambling refuses");
         for (size_t i = 0; i < tn; i++) {
             uint8_t was = c->slices[TARGET].before[i];
             MUST(scratch[0][i] == (was < 2 ? was : 0xff), "scrambled twice is not what it was");
@@ -526,13 +484,13 @@ static void check_laws(const struct call *c, const struct due *d, uint64_t answe
         break;
     case ENTRY_tetra_rm3014_compute:
         MUST(value >> 16 == (uint16_t)c->word, "the word does not begin with its data");
-        back = caplattice_tetra_rm3014_decode_limited_ecc(value);
-        MUST(back == ((uint64_t)CAPLATTICE_CLEAN << 32 | (uint16_t)c->word), "a code word is not clean");
+        back = caplattice_tetra_rm3014_decode_limited_ecc((uint32_t)value, &more);
+        MUST(back == 0 && more.verdict == CAPLATTICE_CLEAN && more.value == (uint16_t)c->word, "a code word is not clean");
         break;
     case ENTRY_tetra_rm3014_decode_limited_ecc:
-        if (caplattice_case_of(answer) == CAPLATTICE_MENDED) {
-            uint32_t mended = c->word ^ 1u << (30 - caplattice_number(answer));
-            MUST(caplattice_value(caplattice_tetra_rm3014_compute((uint16_t)value)) == mended, "mended to no code word");
+        if (said->verdict == CAPLATTICE_MENDED) {
+            uint32_t mended = c->word ^ 1u << (30 - said->place);
+            MUST(!caplattice_tetra_rm3014_compute((uint16_t)value, &more) && more.value == mended, "mended to no code word");
         } else
             MUST(value == c->word >> 16, "the data are not the upper 14 bits");
         break;
@@ -544,8 +502,8 @@ static void check_laws(const struct call *c, const struct due *d, uint64_t answe
         MUST(sn > 0 || value == c->word, "an empty input changed the delays");
         MUST(sn == 0 || (value & 0xfefefefe) == 0, "a delay is no bit");
         if (c->entry != ENTRY_encode_rate1_3 && c->word == 0 && sn >= 4 && sn <= 864 && value == 0) {
-            back = (c->entry == ENTRY_encode ? caplattice_dec_sb1 : caplattice_dec_speech)(target, tn, scratch[0], sn, sn, workspace, sn);
-            MUST(back == 0 && memcmp(scratch[0], source, sn) == 0, "decoding what was encoded gives another word");
+            back = (c->entry == ENTRY_encode ? caplattice_dec_sb1 : caplattice_dec_speech)(target, tn, scratch[0], sn, sn, workspace, sn, &more);
+            MUST(back == 0 && more.disagreements == 0 && memcmp(scratch[0], source, sn) == 0, "decoding what was encoded gives another word");
         }
         break;
     case ENTRY_get_punctured_rate:
@@ -562,14 +520,15 @@ static void check_laws(const struct call *c, const struct due *d, uint64_t answe
                 MUST(target[at] == c->slices[TARGET].before[at], "a place was written that is not kept");
         break;
     case ENTRY_mother_memcmp: {
-        uint32_t matched = 0, differ = 0;
+        uint64_t matched = 0, differ = 0;
         const uint8_t *depunct = c->slices[TARGET].before;
         for (size_t i = 0; i < sn; i++)
             if (depunct[i] != 0xff) {
                 matched += source[i] == depunct[i];
                 differ += source[i] != depunct[i];
             }
-        MUST(differ ? caplattice_case_of(answer) == CAPLATTICE_DIFFERS : value == matched, "another count, or another verdict");
+        MUST(differ ? said->verdict == CAPLATTICE_DIFFERS : said->verdict == CAPLATTICE_MATCHED && value == matched,
+             "another count, or another verdict");
         break;
     }
     case ENTRY_dec_sb1:
@@ -577,37 +536,39 @@ static void check_laws(const struct call *c, const struct due *d, uint64_t answe
         MUST(all_bits(target, tn), "a decoded bit is no bit");
         for (size_t i = 0; i < 4 && i < tn; i++)
             MUST(target[tn - 1 - i] == 0, "the tail is not zero");
-        back = (c->entry == ENTRY_dec_sb1 ? caplattice_encode : caplattice_encode_speech)(0, target, tn, scratch[0], sn);
-        MUST(caplattice_case_of(back) == CAPLATTICE_DONE && value == disagreeing(scratch[0], source, sn), "not the word's disagreements");
+        back = (c->entry == ENTRY_dec_sb1 ? caplattice_encode : caplattice_encode_speech)(0, target, tn, scratch[0], sn, &more);
+        MUST(back == 0 && said->disagreements == disagreeing(scratch[0], source, sn), "not the word's disagreements");
         break;
     case ENTRY_encode_cp:
         MUST(all_bits(target, tn), "a sent symbol is no bit");
-        back = caplattice_decode_cp(c->small, c->word, target, tn, scratch[0], control_word[c->small], workspace, control_word[c->small]);
-        MUST(back == (uint64_t)CAPLATTICE_GOOD << 32 && memcmp(scratch[0], source, sn) == 0, "a sent block is not received");
+        back = caplattice_decode_cp(c->small, c->word, target, tn, scratch[0], control_word[c->small], workspace, control_word[c->small],
+                                    &more);
+        MUST(back == 0 && more.verdict == CAPLATTICE_GOOD && more.disagreements == 0 && memcmp(scratch[0], source, sn) == 0,
+             "a sent block is not received");
         break;
     case ENTRY_decode_cp:
         MUST(all_bits(target, tn), "a decoded bit is no bit");
-        MUST(good == (caplattice_crc16_ccitt_bits(target, tn, tn - 4) == 0x1d0f), "Good is not what the check says");
+        MUST(!caplattice_crc16_ccitt_bits(target, tn, tn - 4, &more) && good == (more.value == 0x1d0f), "Good is not what the check says");
         if (good) {
             memcpy(scratch[1], target, tn);
             MUST(caplattice_encode_cp(c->small, c->word, scratch[1], tn, scratch[0], sn) == 0, "a decoded block is refused");
-            MUST(value == disagreeing(scratch[0], source, sn), "not the block's disagreements");
+            MUST(said->disagreements == disagreeing(scratch[0], source, sn), "not the block's disagreements");
         }
         break;
     case ENTRY_encode_tp:
     case ENTRY_encode_tp_half:
         MUST(all_bits(target, tn), "a sent symbol is no bit");
-        back = (tn == 432 ? caplattice_decode_tp : caplattice_decode_tp_half)(c->word, target, tn, scratch[0], 274, workspace, 184);
-        MUST(back == (uint64_t)CAPLATTICE_GOOD << 32, "a sent slot is not received");
+        back = (tn == 432 ? caplattice_decode_tp : caplattice_decode_tp_half)(c->word, target, tn, scratch[0], 274, workspace, 184, &more);
+        MUST(back == 0 && more.verdict == CAPLATTICE_GOOD && more.disagreements == 0, "a sent slot is not received");
         MUST(tn == 216 || memcmp(scratch[0], source, sn) == 0, "a sent slot is received as another");
         break;
     case ENTRY_decode_tp:
     case ENTRY_decode_tp_half: MUST(all_bits(target, tn), "a decoded bit is no bit"); break;
     case ENTRY_encode_aach:
-        back = caplattice_decode_aach(c->word, target, tn);
-        MUST(caplattice_case_of(back) == CAPLATTICE_CLEAN, "a sent field is not clean");
+        back = caplattice_decode_aach(c->word, target, tn, &more);
+        MUST(back == 0 && more.verdict == CAPLATTICE_CLEAN, "a sent field is not clean");
         for (size_t i = 0; i < 14; i++)
-            MUST((caplattice_value(back) >> (13 - i) & 1) == source[i], "a sent field is received as another");
+            MUST((more.value >> (13 - i) & 1) == source[i], "a sent field is received as another");
         break;
     default: break;
     }
@@ -618,7 +579,7 @@ static void check_laws(const struct call *c, const struct due *d, uint64_t answe
 /* Pages that can be touched, between two that cannot. */
 static uint8_t *guarded(int which)
 {
-    static uint8_t *rooms[SLICES];
+    static uint8_t *rooms[SLICES + 1];
     if (!rooms[which]) {
         size_t page = 4096;
         uint8_t *at = mmap(NULL, ROOM_FOR_ANY + 2 * page, PROT_NONE, MAP_PRIVATE | MAP_ANONYMOUS, -1, 0);
@@ -698,12 +659,17 @@ int LLVMFuzzerTestOneInput(const uint8_t *data, size_t size)
         refusal = refusal_by_content(&c, &d);
     met[c.entry][refusal]++;
 
-    uint64_t answer = made(&instrumented, &c, heap);
-    check_answer(&c, answer, refusal);
+    caplattice_answer *said = malloc(sizeof *said);
+    caplattice_answer *also = (caplattice_answer *)(guarded(SLICES) + ROOM_FOR_ANY - sizeof *also);
+    *said = *also = untouched;
+    unsigned number = made(&instrumented, &c, heap, said);
+    check_answer(&c, number, said, refusal);
     check_slices(&c, &d, refusal);
     if (!refusal)
-        check_laws(&c, &d, answer);
-    MUST(made(&shipped, &c, other) == answer, "the shipped library answers otherwise than the instrumented module");
+        check_laws(&c, &d, said);
+    MUST(made(&shipped, &c, other, also) == number && same_answer(said, also),
+         "the shipped library answers otherwise than the instrumented module");
+    free(said);
     for (int which = 0; which < SLICES; which++) {
         struct slice *s = &c.slices[which];
         if (!s->unreal && s->len > 0 && has(c.entry, which))
@@ -716,48 +682,6 @@ int LLVMFuzzerTestOneInput(const uint8_t *data, size_t size)
 
 #ifdef SHIPPED_ALONE
 /* The same calls without a fuzzer, for tests/boundary: so many, from a fixed beginning, and then a look at what they met. */
-static const char *refusals_of(enum entry entry)
-{
-    switch (entry) {
-    case ENTRY_crc16_itut_bits:
-    case ENTRY_crc16_ccitt_bits:
-    case ENTRY_tetra_scramb_get_bits:
-    case ENTRY_tetra_descramb_bits:
-    case ENTRY_mother_memcmp: return "";
-    case ENTRY_crc16_itut_bytes: return "2";
-    case ENTRY_tetra_scramb_bits: return "4";
-    case ENTRY_tetra_scramb_get_init: return "7";
-    case ENTRY_block_interleave:
-    case ENTRY_block_deinterleave: return "1523";
-    case ENTRY_matrix_interleave:
-    case ENTRY_matrix_deinterleave:
-    case ENTRY_dec_sb1:
-    case ENTRY_dec_speech: return "123";
-    case ENTRY_tetra_rm3014_compute:
-    case ENTRY_tetra_rm3014_decode_naive:
-    case ENTRY_compute_syndrome:
-    case ENTRY_tetra_rm3014_decode_limited_ecc: return "6";
-    case ENTRY_codec_to_channel:
-    case ENTRY_channel_to_codec:
-    case ENTRY_speech_crc:
-    case ENTRY_decode_tp:
-    case ENTRY_decode_tp_half: return "23";
-    case ENTRY_encode:
-    case ENTRY_encode_rate1_3:
-    case ENTRY_encode_speech: return "134";
-    case ENTRY_get_punctured_rate:
-    case ENTRY_tetra_rcpc_depunct: return "8123";
-    case ENTRY_encode_cp: return "8234";
-    case ENTRY_decode_cp: return "823";
-    case ENTRY_encode_tp:
-    case ENTRY_encode_tp_half:
-    case ENTRY_encode_aach: return "234";
-    case ENTRY_decode_aach: return "24";
-    case ENTRY_COUNT: break;
-    }
-    abort();
-}
-
 int main(int count, char **words)
 {
     long calls = count > 1 ? atol(words[1]) : 100000;
@@ -771,7 +695,7 @@ int main(int count, char **words)
         LLVMFuzzerTestOneInput(input, sizeof input);
     }
     for (int entry = 0; entry < ENTRY_COUNT; entry++) {
-        const char *due = refusals_of(entry);
+        const char *due = shapes[entry].refusals;
         for (int number = 0; number < 9; number++) {
             int expected = number == 0 || strchr(due, '0' + number) != NULL;
             refusals += number > 0 && expected;

@@ -179,29 +179,30 @@ extern __typeof__(caplattice_decode_aach) shipped_caplattice_decode_aach;
 
 static const size_t symbols_of[] = {0, 120, 168, 216, 432, 30, 432, 216};
 
-static uint64_t answered(unsigned kind, const uint8_t *body)
+static uint8_t answered(unsigned kind, const uint8_t *body, caplattice_answer *answer)
 {
     static uint8_t target[288];
     static uint16_t trellis[288];
     uint32_t start = (uint32_t)body[0] << 24 | (uint32_t)body[1] << 16 | (uint32_t)body[2] << 8 | body[3];
     const uint8_t *symbols = body + 4;
     switch (kind) {
-    case 5: return shipped_caplattice_decode_aach(start, symbols, 30);
-    case 6: return shipped_caplattice_decode_tp(start, symbols, 432, target, 288, trellis, 288);
-    case 7: return shipped_caplattice_decode_tp_half(start, symbols, 216, target, 288, trellis, 288);
-    default: return shipped_caplattice_decode_cp((uint8_t)kind, start, symbols, symbols_of[kind], target, 288, trellis, 288);
+    case 5: return shipped_caplattice_decode_aach(start, symbols, 30, answer);
+    case 6: return shipped_caplattice_decode_tp(start, symbols, 432, target, 288, trellis, 288, answer);
+    case 7: return shipped_caplattice_decode_tp_half(start, symbols, 216, target, 288, trellis, 288, answer);
+    default: return shipped_caplattice_decode_cp((uint8_t)kind, start, symbols, symbols_of[kind], target, 288, trellis, 288, answer);
     }
 }
 
-static size_t a_line(char *out, size_t number, unsigned kind, uint64_t answer)
+static size_t a_line(char *out, size_t number, unsigned kind, const uint8_t *body)
 {
     static const char *const words[] = {"done", "good", "bad", "clean", "mended", "beyond"};
-    unsigned of = caplattice_case_of(answer);
-    if (of == CAPLATTICE_REFUSED)
-        return (size_t)sprintf(out, "%zu %02x refused %u\n", number, kind, caplattice_number(answer));
+    caplattice_answer said;
+    unsigned refusal = answered(kind, body, &said);
+    if (refusal)
+        return (size_t)sprintf(out, "%zu %02x refused %u\n", number, kind, refusal);
     if (kind == 5)
-        return (size_t)sprintf(out, "%zu %02x %s %u %04x\n", number, kind, words[of], caplattice_number(answer), caplattice_value(answer));
-    return (size_t)sprintf(out, "%zu %02x %s %u\n", number, kind, words[of], caplattice_value(answer));
+        return (size_t)sprintf(out, "%zu %02x %s %u %04x\n", number, kind, words[said.verdict], (unsigned)said.place, (unsigned)said.value);
+    return (size_t)sprintf(out, "%zu %02x %s %u\n", number, kind, words[said.verdict], (unsigned)said.disagreements);
 }
 
 static const char *ending; /* the word for what `owed` was last asked of */
@@ -227,7 +228,7 @@ static size_t owed(const uint8_t *recording, size_t length, int read_fails, char
             break;
         }
         count++;
-        n += a_line(out + n, count, kind, answered(kind, recording + at + 1));
+        n += a_line(out + n, count, kind, recording + at + 1);
         at += 5 + symbols_of[kind];
     }
     if (!read_fails)

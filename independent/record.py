@@ -1,22 +1,17 @@
 """The record that carries one request and its answer; FORMAT.md in ../compare describes it."""
 
+import os
 import struct
+import sys
 from collections import namedtuple
+
+sys.path.insert(0, os.path.join(os.path.dirname(os.path.abspath(__file__)), "..", "boundary"))
+import table
 
 HEAD = struct.Struct(">BQQHHHBHQHH")
 
 # Entry numbers of the records are places in this list.
-ENTRIES = (
-    "crc16_itut_bits", "crc16_itut_bytes", "crc16_ccitt_bits",
-    "tetra_scramb_get_bits", "tetra_scramb_bits", "tetra_descramb_bits", "tetra_scramb_get_init",
-    "block_interleave", "block_deinterleave", "matrix_interleave", "matrix_deinterleave",
-    "tetra_rm3014_compute", "tetra_rm3014_decode_naive", "compute_syndrome", "tetra_rm3014_decode_limited_ecc",
-    "codec_to_channel", "channel_to_codec",
-    "encode", "encode_rate1_3", "encode_speech", "get_punctured_rate", "tetra_rcpc_depunct", "mother_memcmp",
-    "dec_sb1", "dec_speech", "speech_crc",
-    "encode_cp", "decode_cp", "encode_tp", "encode_tp_half", "decode_tp", "decode_tp_half",
-    "encode_aach", "decode_aach",
-)
+ENTRIES = tuple(function.name for function in table.functions())
 
 CASES = ("done", "good", "bad", "clean", "mended", "beyond", "matched", "differs", "refused", "panicked",
          "unasked")

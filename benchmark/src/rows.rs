@@ -1,6 +1,6 @@
 // What is measured: for each row the original and ours on the same inputs, and for the decoders the other two beside them.
 use crate::inputs::{control_symbols, speech_symbols, Chance};
-use crate::ours;
+use crate::ours::{self, Answer};
 use crate::timing::{contestant, Contestant, Lent, Shape};
 use original::lmac::components::convenc::{self, RcpcPunctMode};
 use original::lmac::components::{crc16, errorcontrol, interleaver, rm3014, scrambler, tch_reorder, viterbi};
@@ -89,8 +89,8 @@ pub fn control(n: usize, timed: usize) -> Row {
             if lent.compared { disagreements(4, i, &lent.target[..n]) } else { 0 }
         }),
         contestant("ours", &inputs, &shape, move |i, lent| {
-            let answer = ours::dec_sb1(i, &mut lent.target, n, &mut lent.trellis);
-            clean(lent, n, answer)
+            let refusal = ours::dec_sb1(i, &mut lent.target, n, &mut lent.trellis, &mut lent.said);
+            clean(lent, n, ours::said(refusal, lent.said.disagreements))
         }),
         contestant("C with SSE4.1", &inputs, &shape, move |i, lent| {
             let answer = unsafe { yardstick_control(i.as_ptr(), n, lent.target.as_mut_ptr(), lent.trellis.as_mut_ptr()) };
@@ -117,8 +117,8 @@ pub fn speech(n: usize, timed: usize) -> Row {
             if lent.compared { disagreements(3, i, &lent.target[..n]) } else { 0 }
         }),
         contestant("ours", &inputs, &shape, move |i, lent| {
-            let answer = ours::dec_speech(i, &mut lent.target, n, &mut lent.trellis);
-            clean(lent, n, answer)
+            let refusal = ours::dec_speech(i, &mut lent.target, n, &mut lent.trellis, &mut lent.said);
+            clean(lent, n, ours::said(refusal, lent.said.disagreements))
         }),
         contestant("C with SSE4.1", &inputs, &shape, move |i, lent| {
             let answer = unsafe { yardstick_speech(i.as_ptr(), n, lent.target.as_mut_ptr(), lent.trellis.as_mut_ptr()) };
@@ -150,8 +150,8 @@ fn speech_ready() -> Row {
             if lent.compared { disagreements(3, &i.0, &lent.target[..184]) } else { 0 }
         }),
         contestant("ours", &inputs, &shape, |i, lent| {
-            let answer = ours::dec_speech(&i.0, &mut lent.target, 184, &mut lent.trellis);
-            clean(lent, 184, answer)
+            let refusal = ours::dec_speech(&i.0, &mut lent.target, 184, &mut lent.trellis, &mut lent.said);
+            clean(lent, 184, ours::said(refusal, lent.said.disagreements))
         }),
     ];
     row("the same, soft values ready for the original", 0.45, &shape, 64, contestants)
@@ -203,8 +203,8 @@ fn receive(kind: &'static Kind, limit: f64) -> Row {
             good as u64
         }),
         contestant("ours", &inputs, &shape, |i, lent| {
-            let answer = ours::decode_cp(kind.number, i.0, &i.1, &mut lent.target, &mut lent.trellis);
-            clean(lent, kind.word, (ours::case(answer) == ours::GOOD) as u64)
+            let refusal = ours::decode_cp(kind.number, i.0, &i.1, &mut lent.target, &mut lent.trellis, &mut lent.said);
+            clean(lent, kind.word, ours::said(refusal, (lent.said.verdict == ours::GOOD) as u64))
         }),
     ];
     row(format!("{} receive from bytes", kind.name), limit, &shape, 64, contestants)
@@ -219,7 +219,7 @@ fn send(kind: &'static Kind, limit: f64) -> Row {
             lent.made(&sent_control(kind.channel, &i.1, i.0));
             0
         }),
-        contestant("ours", &inputs, &shape, |i, lent| ours::encode_cp(kind.number, i.0, &i.1, &mut lent.target)),
+        contestant("ours", &inputs, &shape, |i, lent| ours::encode_cp(kind.number, i.0, &i.1, &mut lent.target) as u64),
     ];
     row(format!("{} send from bytes", kind.name), limit, &shape, 64, contestants)
 }
@@ -240,8 +240,8 @@ fn slot_receive() -> Row {
             good as u64
         }),
         contestant("ours", &inputs, &shape, |i, lent| {
-            let answer = ours::decode_tp(i.0, &i.1, &mut lent.target, &mut lent.trellis);
-            clean(lent, 184, (ours::case(answer) == ours::GOOD) as u64)
+            let refusal = ours::decode_tp(i.0, &i.1, &mut lent.target, &mut lent.trellis, &mut lent.said);
+            clean(lent, 184, ours::said(refusal, (lent.said.verdict == ours::GOOD) as u64))
         }),
     ];
     row("speech slot receive from bytes", 0.40, &shape, 64, contestants)
@@ -257,7 +257,8 @@ fn slot_send(half: bool, limit: f64) -> Row {
             0
         }),
         contestant("ours", &inputs, &shape, move |i, lent| {
-            if half { ours::encode_tp_half(i.0, &i.1, &mut lent.target) } else { ours::encode_tp(i.0, &i.1, &mut lent.target) }
+            let send = if half { ours::encode_tp_half } else { ours::encode_tp };
+            send(i.0, &i.1, &mut lent.target) as u64
         }),
     ];
     row(if half { "speech second half send from bytes" } else { "speech slot send from bytes" }, limit, &shape, 64, contestants)
@@ -272,13 +273,13 @@ fn scrambler_outputs() -> Row {
             scrambler::tetra_scramb_get_bits(*i, &mut lent.target);
             0
         }),
-        contestant("ours", &inputs, &shape, |i, lent| ours::tetra_scramb_get_bits(*i, &mut lent.target)),
+        contestant("ours", &inputs, &shape, |i, lent| ours::tetra_scramb_get_bits(*i, &mut lent.target) as u64),
     ];
     row("scrambler over 432, outputs", 0.30, &shape, 64, contestants)
 }
 
 // In place: what one call leaves, the next one scrambles.
-fn scrambler_block(name: &'static str, entry: fn(u32, &mut [u8]) -> u64) -> Row {
+fn scrambler_block(name: &'static str, entry: fn(u32, &mut [u8]) -> u8) -> Row {
     let mut chance = Chance::new(8);
     let inputs = many(64, |_| (chance.number(), chance.bits(432)));
     let shape = shape(8, 432, 432);
@@ -301,7 +302,7 @@ fn scrambler_block(name: &'static str, entry: fn(u32, &mut [u8]) -> u64) -> Row 
             if lent.compared {
                 lent.target.copy_from_slice(&i.1);
             }
-            entry(i.0, &mut lent.target)
+            entry(i.0, &mut lent.target) as u64
         }),
     ];
     row(name, 0.30, &shape, 64, contestants)
@@ -313,7 +314,7 @@ fn moved(
     source: usize,
     seen: usize,
     theirs: impl Fn(&[u8], &mut [u8]) + 'static,
-    entry: impl Fn(&[u8], &mut [u8]) -> u64 + 'static,
+    entry: impl Fn(&[u8], &mut [u8]) -> u8 + 'static,
 ) -> Row {
     let mut chance = Chance::new(9);
     let inputs = many(64, |_| chance.bits(source));
@@ -323,7 +324,7 @@ fn moved(
             theirs(i, &mut lent.target);
             0
         }),
-        contestant("ours", &inputs, &shape, move |i, lent| entry(i, &mut lent.target)),
+        contestant("ours", &inputs, &shape, move |i, lent| entry(i, &mut lent.target) as u64),
     ];
     row(name, 0.60, &shape, 64, contestants)
 }
@@ -381,12 +382,15 @@ fn crc() -> Row {
     let shape = shape(16, 0, 0);
     let contestants = vec![
         contestant("original", &inputs, &shape, |i, _| crc16::crc16_ccitt_bits(i, 284) as u64),
-        contestant("ours", &inputs, &shape, |i, _| ours::crc16_ccitt_bits(i, 284)),
+        contestant("ours", &inputs, &shape, |i, lent| {
+            let refusal = ours::crc16_ccitt_bits(i, 284, &mut lent.said);
+            ours::said(refusal, lent.said.value)
+        }),
     ];
     row("crc16 over 284", 1.0, &shape, 64, contestants)
 }
 
-fn encoder(name: &'static str, n: usize, rate: usize, theirs: fn(&[u8], &mut [u8]), entry: fn(u32, &[u8], &mut [u8]) -> u64) -> Row {
+fn encoder(name: &'static str, n: usize, rate: usize, theirs: fn(&[u8], &mut [u8]), entry: fn(u32, &[u8], &mut [u8], &mut Answer) -> u8) -> Row {
     let mut chance = Chance::new(11);
     let inputs = many(64, |_| chance.bits(n));
     let shape = shape(16, rate * n, rate * n);
@@ -396,8 +400,7 @@ fn encoder(name: &'static str, n: usize, rate: usize, theirs: fn(&[u8], &mut [u8
             0
         }),
         contestant("ours", &inputs, &shape, move |i, lent| {
-            entry(0, i, &mut lent.target);
-            0
+            entry(0, i, &mut lent.target, &mut lent.said) as u64
         }),
     ];
     row(name, 1.0, &shape, 64, contestants)
@@ -409,7 +412,10 @@ fn rm_encode() -> Row {
     let shape = shape(256, 0, 0);
     let contestants = vec![
         contestant("original", &inputs, &shape, |i, _| rm3014::tetra_rm3014_compute(*i) as u64),
-        contestant("ours", &inputs, &shape, |i, _| ours::tetra_rm3014_compute(*i)),
+        contestant("ours", &inputs, &shape, |i, lent| {
+            let refusal = ours::tetra_rm3014_compute(*i, &mut lent.said);
+            ours::said(refusal, lent.said.value)
+        }),
     ];
     row("RM(30,14) encode", 1.0, &shape, 256, contestants)
 }
@@ -427,12 +433,15 @@ fn rm_decode(name: &'static str, most: usize) -> Row {
     let shape = shape(84, 0, 0);
     let contestants = vec![
         contestant("original", &inputs, &shape, |i, _| rm3014::tetra_rm3014_decode_limited_ecc(*i) as u64),
-        contestant("ours", &inputs, &shape, |i, _| ours::value(ours::tetra_rm3014_decode_limited_ecc(*i))),
+        contestant("ours", &inputs, &shape, |i, lent| {
+            let refusal = ours::tetra_rm3014_decode_limited_ecc(*i, &mut lent.said);
+            ours::said(refusal, lent.said.value)
+        }),
     ];
     row(name, 1.0, &shape, 252, contestants)
 }
 
-fn reorder(name: &'static str, theirs: fn(&[u8; 274]) -> [u8; 274], entry: fn(&[u8], &mut [u8]) -> u64) -> Row {
+fn reorder(name: &'static str, theirs: fn(&[u8; 274]) -> [u8; 274], entry: fn(&[u8], &mut [u8]) -> u8) -> Row {
     let mut chance = Chance::new(14);
     let inputs: Rc<Vec<[u8; 274]>> = many(64, |_| chance.bits(274).try_into().unwrap());
     let shape = shape(16, 274, 274);
@@ -441,7 +450,7 @@ fn reorder(name: &'static str, theirs: fn(&[u8; 274]) -> [u8; 274], entry: fn(&[
             lent.made(&theirs(i));
             0
         }),
-        contestant("ours", &inputs, &shape, move |i, lent| entry(i, &mut lent.target)),
+        contestant("ours", &inputs, &shape, move |i, lent| entry(i, &mut lent.target) as u64),
     ];
     row(name, 1.0, &shape, 64, contestants)
 }
@@ -455,7 +464,7 @@ fn check_bits() -> Row {
             lent.made(&errorcontrol::speech_check(i));
             0
         }),
-        contestant("ours", &inputs, &shape, |i, lent| ours::speech_crc(i, &mut lent.target)),
+        contestant("ours", &inputs, &shape, |i, lent| ours::speech_crc(i, &mut lent.target) as u64),
     ];
     row("speech check of 60", 1.0, &shape, 64, contestants)
 }
@@ -475,7 +484,10 @@ fn comparison() -> Row {
         contestant("original", &inputs, &shape, |i, _| {
             convenc::mother_memcmp(&i.0, &i.1).map_or(0, |count| ours::MATCHED << 32 | count as u64)
         }),
-        contestant("ours", &inputs, &shape, |i, _| ours::mother_memcmp(&i.0, &i.1)),
+        contestant("ours", &inputs, &shape, |i, lent| {
+            let refusal = ours::mother_memcmp(&i.0, &i.1, &mut lent.said);
+            ours::said(refusal, lent.said.verdict << 32 | lent.said.value)
+        }),
     ];
     row("mother_memcmp over 1152", 1.0, &shape, 64, contestants)
 }
@@ -489,7 +501,7 @@ fn access() -> Vec<Row> {
             lent.made(&errorcontrol::encode_aach(BitBuffer::from_bitarr(&i.1), i.0).into_bitvec());
             0
         }),
-        contestant("ours", &sent, &send_shape, |i, lent| ours::encode_aach(i.0, &i.1, &mut lent.target)),
+        contestant("ours", &sent, &send_shape, |i, lent| ours::encode_aach(i.0, &i.1, &mut lent.target) as u64),
     ];
     let heard = many(64, |n| {
         let (start, data) = &sent[n];
@@ -506,7 +518,8 @@ fn access() -> Vec<Row> {
             0
         }),
         contestant("ours", &heard, &heard_shape, |i, lent| {
-            let data = ours::value(ours::decode_aach(i.0, &i.1));
+            let refusal = ours::decode_aach(i.0, &i.1, &mut lent.said);
+            let data = ours::said(refusal, lent.said.value);
             if lent.compared {
                 for place in 0..14 {
                     lent.target[place] = (data >> (13 - place) & 1) as u8;

@@ -1,4 +1,5 @@
 // Contestants that do the same work, called in turn many times; the best time of each stands.
+use crate::ours::Answer;
 use std::hint::black_box;
 use std::rc::Rc;
 use std::time::Instant;
@@ -9,6 +10,7 @@ const BLOCKS: usize = 12;
 pub struct Lent {
     pub target: Vec<u8>,
     pub trellis: Vec<u16>,
+    pub said: Answer,
     // Whether the answer is to be compared, and not timed.
     pub compared: bool,
 }
@@ -55,7 +57,7 @@ pub fn contestant<I: 'static>(
     let inputs = inputs.clone();
     let (timed, room, seen, before) = (shape.timed, shape.room, shape.seen, shape.before);
     let mut between = vec![];
-    let mut lent = Lent { target: vec![before; room], trellis: vec![0; 864], compared: false };
+    let mut lent = Lent { target: vec![before; room], trellis: vec![0; 864], said: Answer::default(), compared: false };
     let run = move |ask: Ask| match ask {
         Ask::Answer(i) => {
             lent.compared = true;

@@ -1,42 +1,8 @@
 // One request and its answer, as FORMAT.md describes them.
 use std::io::{self, Read, Write};
 
-pub const ENTRIES: [&str; 34] = [
-    "crc16_itut_bits",
-    "crc16_itut_bytes",
-    "crc16_ccitt_bits",
-    "tetra_scramb_get_bits",
-    "tetra_scramb_bits",
-    "tetra_descramb_bits",
-    "tetra_scramb_get_init",
-    "block_interleave",
-    "block_deinterleave",
-    "matrix_interleave",
-    "matrix_deinterleave",
-    "tetra_rm3014_compute",
-    "tetra_rm3014_decode_naive",
-    "compute_syndrome",
-    "tetra_rm3014_decode_limited_ecc",
-    "codec_to_channel",
-    "channel_to_codec",
-    "encode",
-    "encode_rate1_3",
-    "encode_speech",
-    "get_punctured_rate",
-    "tetra_rcpc_depunct",
-    "mother_memcmp",
-    "dec_sb1",
-    "dec_speech",
-    "speech_crc",
-    "encode_cp",
-    "decode_cp",
-    "encode_tp",
-    "encode_tp_half",
-    "decode_tp",
-    "decode_tp_half",
-    "encode_aach",
-    "decode_aach",
-];
+// The names of the entries, in the order of their numbers.
+include!("entries.rs");
 
 pub const DONE: u8 = 0;
 pub const GOOD: u8 = 1;

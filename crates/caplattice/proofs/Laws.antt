@@ -1,34 +1,32 @@
--- An encoder's delays as one number, and an encoder's promise carried over to it.
+-- What is true of every report, whatever the entry.
 -- Assumes nothing.
-use mathlib.Core.Path.{_≡_, ap, ap₂, _∙_}
-use mathlib.Core.List.{List, [], _∷_}
-use Prim.Native.Nat.{ℕ, suc, _+_, _*_}
-use lib.ListN.{length, getD}
-use native.Mathlib.Omega.{arith}
+use mathlib.Core.Path.{_≡_, refl, sym, ap, _∙_}
+use mathlib.Core.List.{List}
+use Prim.Native.Nat.{ℕ, zero, suc}
 use Rattle.base.specs.declared.Outcome.{Outcome}
-use Rattle.base.specs.Refusal.{outcome, unless}
-use Rattle.base.specs.Places.{written}
-use Rattle.trellis.specs.Nearest.{encode}
-use Rattle.convenc.specs.Generators.{outputs, held, encodeRefusal, delays, Encoded}
-use Rattle.caplattice.specs.Packing.{delaysNumber, delaysIn, encodedNumber}
-use Rattle.caplattice.specs.Promises.{Encodes}
+use Rattle.base.specs.Refusal.{outcome}
+use Rattle.caplattice.specs.Answer.{Report, returned, answerAfter, outcomeRefusal}
+use Rattle.caplattice.specs.Promises.{Reports, Answers, Refuses}
 
-pub four-delays : (l : List ℕ) → length l ≡ 4 → getD l 0 0 + 256 * (getD l 1 0 + 256 * (getD l 2 0 + 256 * getD l 3 0)) ≡ delaysNumber l
-unfolding delaysNumber
-four-delays [] h = omega (arith, h)
-four-delays (a ∷ []) h = omega (arith, h)
-four-delays (a ∷ b ∷ []) h = omega (arith, h)
-four-delays (a ∷ b ∷ c ∷ []) h = omega (arith, h)
-four-delays (a ∷ b ∷ c ∷ d ∷ []) h = omega arith
-four-delays (a ∷ b ∷ c ∷ d ∷ e ∷ l) h = omega (arith, h)
+-- the same report by another name
+pub reported-as : {x y : Report} {before after : List ℕ} {r : ℕ} → x ≡ y → Reports x before after r → Reports y before after r
+reported-as {x} {y} {before} e h =
+    record { number = h .number ∙ ap returned e; answer = h .answer ∙ ap (λ (x : Report). answerAfter x before) e }
 
-pub encodes : (code : List (List ℕ)) (state : ℕ) (delayed source before after next : List ℕ) (answer : Outcome) (r : ℕ)
-    → delayed ≡ delaysIn state → Encoded code delayed source before answer next after → r ≡ encodedNumber answer next
-    → Encodes code state source before after r
-encodes code state delayed source before after next answer r d e h =
-    let refusal : List ℕ → ℕ = λ (l : List ℕ). encodeRefusal (length code) l source (length before) in
-    record {
-      answered = h ∙ ap₂ encodedNumber (e .answered) (e .state)
-          ∙ ap (λ (l : List ℕ). encodedNumber (outcome (refusal l)) (unless (refusal l) (delays l source) l)) d;
-      target = e .target ∙ ap (λ (l : List ℕ). unless (refusal l) (written (encode (outputs code) (held l) source) before) before) d;
-    }
+-- what is returned is the entry's own refusal
+pub refusal-returned : (refusal : ℕ) → outcomeRefusal (outcome refusal) ≡ refusal
+refusal-returned zero = refl
+refusal-returned (suc number) = refl
+
+-- where a promise leaves the entry one answer, the call leaves its caller one number and one answer
+pub one-answer : {A : Type 0} (report : A → Report) (promise : A → Type 0) (before : List ℕ) {after after′ : List ℕ} {r r′ : ℕ}
+    → ((x y : A) → promise x → promise y → x ≡ y)
+    → Answers report promise before after r → Answers report promise before after′ r′ → (r ≡ r′) × (after ≡ after′)
+one-answer report promise before one h h′ =
+    let e : h .own ≡ h′ .own = one (h .own) (h′ .own) (h .kept) (h′ .kept) in
+    let k : Reports (report (h′ .own)) before _ _ = reported-as (ap report e) (h .reports) in
+    (k .number ∙ sym (h′ .reports .number), k .answer ∙ sym (h′ .reports .answer))
+
+pub one-refusal : (promise : Outcome → Type 0) {r r′ : ℕ}
+    → ((x y : Outcome) → promise x → promise y → x ≡ y) → Refuses promise r → Refuses promise r′ → r ≡ r′
+one-refusal promise one h h′ = h .number ∙ ap outcomeRefusal (one (h .own) (h′ .own) (h .kept) (h′ .kept)) ∙ sym (h′ .number)

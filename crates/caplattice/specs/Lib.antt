@@ -1,2 +1,3 @@
-pub mod Packing
+pub mod Answer
 pub mod Promises
+pub mod Version

@@ -1,41 +1,41 @@
--- What an exported function owes: the entry's answer as a number, and the entry's targets.
+-- What an exported function owes: the promise that its entry makes, for an answer of the entry that the call reports.
+-- An entry's promise leaves it one answer, so a report is fixed too: proofs/Laws.antt.
 -- Assumes nothing.
 use mathlib.Core.Path.{_≡_}
-use mathlib.Core.Bool.{Bool}
 use mathlib.Core.List.{List}
 use Prim.Native.Nat.{ℕ}
-use lib.ListN.{length}
-use Rattle.base.specs.declared.Counts.{Counts}
-use Rattle.base.specs.Refusal.{outcome, reception, unless}
-use Rattle.base.specs.Places.{written}
-use Rattle.trellis.specs.Nearest.{encode}
-use Rattle.convenc.specs.Generators.{outputs, held, encodeRefusal, delays}
-use Rattle.viterbi.specs.Decoding.{decodeRefusal, disagreements, decoded, answer, cleared}
-use Rattle.caplattice.specs.Packing.{outcomeNumber, receivedNumber, decodedNumber, delaysIn, encodedNumber}
+use Rattle.base.specs.declared.Outcome.{Outcome}
+use Rattle.base.specs.Refusal.{outcome, unless}
+use Rattle.convenc.specs.Generators.{Encoded}
+use Rattle.caplattice.specs.Answer.{Report, returned, answerAfter, outcomeRefusal, delaysIn, encodedReport}
 
--- by its refusal, an entry with one target answers so, and leaves there what it made or what was there before
-pub record Writes (refusal : ℕ) (made before after : List ℕ) (r : ℕ) : Type 0 where
-  pub answered : r ≡ outcomeNumber (outcome refusal)
+-- a call that returns r and finds and leaves the caller's answer so makes this report
+pub record Reports (report : Report) (before after : List ℕ) (r : ℕ) : Type 0 where
+  pub number : r ≡ returned report
+  pub answer : after ≡ answerAfter report before
+
+-- an entry with something to say
+pub record Answers {A : Type 0} (report : A → Report) (promise : A → Type 0) (before after : List ℕ) (r : ℕ) : Type 0 where
+  pub own : A
+  pub kept : promise own
+  pub reports : Reports (report own) before after r
+
+-- an entry that is done or refuses
+pub record Refuses (promise : Outcome → Type 0) (r : ℕ) : Type 0 where
+  pub own : Outcome
+  pub kept : promise own
+  pub number : r ≡ outcomeRefusal own
+
+-- the promise of an entry with one target: what it made stands there, or what was there before
+pub record Leaves (refusal : ℕ) (made before after : List ℕ) (own : Outcome) : Type 0 where
+  pub answered : own ≡ outcome refusal
   pub target : after ≡ unless refusal made before
 
--- an encoder of the code, from the delays of a number
-pub record Encodes (code : List (List ℕ)) (state : ℕ) (source before after : List ℕ) (r : ℕ) : Type 0 where
-  pub answered : r
-      ≡ encodedNumber (outcome (encodeRefusal (length code) (delaysIn state) source (length before)))
-      (unless (encodeRefusal (length code) (delaysIn state) source (length before)) (delays (delaysIn state) source) (delaysIn state))
-  pub target : after
-      ≡ unless (encodeRefusal (length code) (delaysIn state) source (length before))
-      (written (encode (outputs code) (held (delaysIn state)) source) before) before
-
--- a decoder of the code, n steps
-pub record Decodes (code : List (List ℕ)) (n : ℕ) (source before after trellis trellis′ : List ℕ) (r : ℕ) : Type 0 where
-  pub answered : r
-      ≡ decodedNumber (answer (decodeRefusal code n (length source) (length trellis) (length before)) (disagreements code n source (decoded code n source)))
-  pub target : after ≡ unless (decodeRefusal code n (length source) (length trellis) (length before)) (written (decoded code n source) before) before
-  pub clears : trellis′ ≡ unless (decodeRefusal code n (length source) (length trellis) (length before)) (cleared n trellis) trellis
-
--- by its refusal, a receive chain of n steps answers so, and leaves in its target what it made and in the trellis n zeros, or what was there before
-pub record Hears (refusal : ℕ) (good : Bool) (counts : Counts) (made before after : List ℕ) (n : ℕ) (trellis trellis′ : List ℕ) (r : ℕ) : Type 0 where
-  pub answered : r ≡ receivedNumber (reception refusal good counts)
-  pub target : after ≡ unless refusal made before
-  pub clears : trellis′ ≡ unless refusal (cleared n trellis) trellis
+-- an encoder of the code, from the delays in a number
+pub record Encodes (code : List (List ℕ)) (state : ℕ) (source target target′ before after : List ℕ) (r : ℕ) : Type 0 where
+  pub from : List ℕ
+  pub read : from ≡ delaysIn state
+  pub own : Outcome
+  pub next : List ℕ
+  pub kept : Encoded code from source target own next target′
+  pub reports : Reports (encodedReport own next) before after r

@@ -6,49 +6,65 @@ ghost use Rattle.base.specs.Places.{written};
 ghost use Rattle.convenc.specs.Generators.{control, controlThird, speech};
 ghost use Rattle.convenc.specs.Puncturing.{punctureRefusal, punctured, depunctureRefusal, depunctured};
 ghost use Rattle.convenc.specs.Comparing.{compare, compared};
-ghost use Rattle.caplattice.specs.Packing.{comparedNumber};
-ghost use Rattle.caplattice.specs.Promises.{Writes, Encodes, Decodes};
-use super::packing;
+ghost use Rattle.viterbi.specs.Decoding.{Decodes};
+ghost use Rattle.caplattice.specs.Answer.{comparedReport, decodedReport};
+ghost use Rattle.caplattice.specs.Promises.{Answers, Refuses, Leaves, Encodes};
+use super::answer;
 use convenc::ConvEncState;
 use convenc::SpeechConvEncState;
 
 #[no_mangle]
-pub extern "C" fn caplattice_encode(delays: u32, source: &[u8], target: &mut [u8]) -> u64
-    ensures { λ r. ⌜ Encodes control delays (now (source .entry)) (now (target .entry)) (now (target .exit)) r ⌝ }
+pub extern "C" fn caplattice_encode(
+    delays: u32,
+    source: &[u8],
+    target: &mut [u8],
+    answer: &mut [u64; 6],
+) -> u8
+    ensures { λ r. ⌜ Encodes control delays (now (source .entry)) (now (target .entry)) (now (target .exit)) (now (answer .entry)) (now (answer .exit)) r ⌝ }
 {
-    let delayed = packing::delays_of(delays);
+    let delayed = answer::delays_of(delays);
     let encoder = ConvEncState { delayed: delayed };
     let made = encoder.encode(source, target);
-    let answer = made.outcome;
+    let own = made.outcome;
     let after = made.state;
     let next = after.delayed;
-    packing::encoded_number(answer, next)
+    answer::tell_encoded(own, next, answer)
 }
 
 #[no_mangle]
-pub extern "C" fn caplattice_encode_rate1_3(delays: u32, source: &[u8], target: &mut [u8]) -> u64
-    ensures { λ r. ⌜ Encodes controlThird delays (now (source .entry)) (now (target .entry)) (now (target .exit)) r ⌝ }
+pub extern "C" fn caplattice_encode_rate1_3(
+    delays: u32,
+    source: &[u8],
+    target: &mut [u8],
+    answer: &mut [u64; 6],
+) -> u8
+    ensures { λ r. ⌜ Encodes controlThird delays (now (source .entry)) (now (target .entry)) (now (target .exit)) (now (answer .entry)) (now (answer .exit)) r ⌝ }
 {
-    let delayed = packing::delays_of(delays);
+    let delayed = answer::delays_of(delays);
     let encoder = ConvEncState { delayed: delayed };
     let made = encoder.encode_rate1_3(source, target);
-    let answer = made.outcome;
+    let own = made.outcome;
     let after = made.state;
     let next = after.delayed;
-    packing::encoded_number(answer, next)
+    answer::tell_encoded(own, next, answer)
 }
 
 #[no_mangle]
-pub extern "C" fn caplattice_encode_speech(delays: u32, source: &[u8], target: &mut [u8]) -> u64
-    ensures { λ r. ⌜ Encodes speech delays (now (source .entry)) (now (target .entry)) (now (target .exit)) r ⌝ }
+pub extern "C" fn caplattice_encode_speech(
+    delays: u32,
+    source: &[u8],
+    target: &mut [u8],
+    answer: &mut [u64; 6],
+) -> u8
+    ensures { λ r. ⌜ Encodes speech delays (now (source .entry)) (now (target .entry)) (now (target .exit)) (now (answer .entry)) (now (answer .exit)) r ⌝ }
 {
-    let delayed = packing::delays_of(delays);
+    let delayed = answer::delays_of(delays);
     let encoder = SpeechConvEncState { delayed: delayed };
     let made = encoder.encode(source, target);
-    let answer = made.outcome;
+    let own = made.outcome;
     let after = made.state;
     let next = after.delayed;
-    packing::encoded_number(answer, next)
+    answer::tell_encoded(own, next, answer)
 }
 
 #[no_mangle]
@@ -57,10 +73,10 @@ pub extern "C" fn caplattice_get_punctured_rate(
     source: &[u8],
     n: usize,
     target: &mut [u8],
-) -> u64
-    ensures { λ r. ⌜ Writes (punctureRefusal mode n (length (now (source .entry))) (length (now (target .entry)))) (written (punctured mode n (now (source .entry))) (now (target .entry))) (now (target .entry)) (now (target .exit)) r ⌝ }
+) -> u8
+    ensures { λ r. ⌜ Refuses (Leaves (punctureRefusal mode n (length (now (source .entry))) (length (now (target .entry)))) (written (punctured mode n (now (source .entry))) (now (target .entry))) (now (target .entry)) (now (target .exit))) r ⌝ }
 {
-    packing::outcome_number(convenc::get_punctured_rate(mode, source, n, target))
+    answer::refusal_of(convenc::get_punctured_rate(mode, source, n, target))
 }
 
 #[no_mangle]
@@ -69,17 +85,21 @@ pub extern "C" fn caplattice_tetra_rcpc_depunct(
     source: &[u8],
     n: usize,
     target: &mut [u8],
-) -> u64
-    ensures { λ r. ⌜ Writes (depunctureRefusal mode n (length (now (source .entry))) (length (now (target .entry)))) (depunctured mode n (now (source .entry)) (now (target .entry))) (now (target .entry)) (now (target .exit)) r ⌝ }
+) -> u8
+    ensures { λ r. ⌜ Refuses (Leaves (depunctureRefusal mode n (length (now (source .entry))) (length (now (target .entry)))) (depunctured mode n (now (source .entry)) (now (target .entry))) (now (target .entry)) (now (target .exit))) r ⌝ }
 {
-    packing::outcome_number(convenc::tetra_rcpc_depunct(mode, source, n, target))
+    answer::refusal_of(convenc::tetra_rcpc_depunct(mode, source, n, target))
 }
 
 #[no_mangle]
-pub extern "C" fn caplattice_mother_memcmp(mother: &[u8], depunct: &[u8]) -> u64
-    ensures { λ r. ⌜ r ≡ comparedNumber (compared (compare (now (mother .entry)) (now (depunct .entry)))) ⌝ }
+pub extern "C" fn caplattice_mother_memcmp(
+    mother: &[u8],
+    depunct: &[u8],
+    answer: &mut [u64; 6],
+) -> u8
+    ensures { λ r. ⌜ Answers comparedReport (λ x. x ≡ compared (compare (now (mother .entry)) (now (depunct .entry)))) (now (answer .entry)) (now (answer .exit)) r ⌝ }
 {
-    packing::compared_number(convenc::mother_memcmp(mother, depunct))
+    answer::tell_compared(convenc::mother_memcmp(mother, depunct), answer)
 }
 
 #[no_mangle]
@@ -88,10 +108,11 @@ pub extern "C" fn caplattice_dec_sb1(
     target: &mut [u8],
     n: usize,
     trellis: &mut [u16],
-) -> u64
-    ensures { λ r. ⌜ Decodes control n (now (source .entry)) (now (target .entry)) (now (target .exit)) (now (trellis .entry)) (now (trellis .exit)) r ⌝ }
+    answer: &mut [u64; 6],
+) -> u8
+    ensures { λ r. ⌜ Answers decodedReport (Decodes control n (now (source .entry)) (now (target .entry)) (now (target .exit)) (now (trellis .entry)) (now (trellis .exit))) (now (answer .entry)) (now (answer .exit)) r ⌝ }
 {
-    packing::decoded_number(viterbi::dec_sb1(source, target, n, trellis))
+    answer::tell_decoded(viterbi::dec_sb1(source, target, n, trellis), answer)
 }
 
 #[no_mangle]
@@ -100,8 +121,9 @@ pub extern "C" fn caplattice_dec_speech(
     target: &mut [u8],
     n: usize,
     trellis: &mut [u16],
-) -> u64
-    ensures { λ r. ⌜ Decodes speech n (now (source .entry)) (now (target .entry)) (now (target .exit)) (now (trellis .entry)) (now (trellis .exit)) r ⌝ }
+    answer: &mut [u64; 6],
+) -> u8
+    ensures { λ r. ⌜ Answers decodedReport (Decodes speech n (now (source .entry)) (now (target .entry)) (now (target .exit)) (now (trellis .entry)) (now (trellis .exit))) (now (answer .entry)) (now (answer .exit)) r ⌝ }
 {
-    packing::decoded_number(viterbi::dec_speech(source, target, n, trellis))
+    answer::tell_decoded(viterbi::dec_speech(source, target, n, trellis), answer)
 }

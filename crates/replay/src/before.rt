@@ -1,7 +1,4 @@
 // What target and trellis hold before a request, and what a record says they hold after it.
-use super::head;
-use super::head::Head;
-
 fn next_entry(x: u16) -> u16 {
     (x % 251 + 29) % 251
 }
@@ -19,8 +16,8 @@ fn choice_of(x: u32) -> u16 {
 }
 
 // Entry i before the call: the lent slice's own, or x's.
-fn was(h: Head, source: &[u8], i: usize, x: u16) -> u8 {
-    if head::is_lent(h.entry) {
+fn was(lent: bool, source: &[u8], i: usize, x: u16) -> u8 {
+    if lent {
         if i < source.len() {
             return source[i];
         }
@@ -28,48 +25,51 @@ fn was(h: Head, source: &[u8], i: usize, x: u16) -> u8 {
     entry_of(x)
 }
 
-pub fn fill_target(h: Head, source: &[u8], target: &mut [u8]) {
-    let mut x = h.seed as u16;
+// Entry i after the call: what was written, or what was there before.
+fn after(written: &[u8], i: usize, before: u8) -> u8 {
+    if i < written.len() {
+        written[i]
+    } else {
+        before
+    }
+}
+
+pub fn fill_target(seed: u8, lent: bool, source: &[u8], target: &mut [u8]) {
+    let mut x = seed as u16;
     for i in 0..target.len() {
-        target[i] = was(h, source, i, x);
+        target[i] = was(lent, source, i, x);
         x = next_entry(x);
     }
 }
 
-pub fn fill_trellis(h: Head, trellis: &mut [u16]) {
-    let mut x = h.seed as u32;
+pub fn same_target(seed: u8, lent: bool, source: &[u8], written: &[u8], target: &[u8]) -> bool {
+    let mut x = seed as u16;
+    let mut same = true;
+    for i in 0..target.len() {
+        same = same & (target[i] == after(written, i, was(lent, source, i, x)));
+        x = next_entry(x);
+    }
+    same
+}
+
+pub fn fill_trellis(seed: u8, trellis: &mut [u16]) {
+    let mut x = seed as u32;
     for i in 0..trellis.len() {
         trellis[i] = choice_of(x);
         x = next_choice(x);
     }
 }
 
-pub fn same_target(h: Head, source: &[u8], written: &[u8], target: &[u8]) -> bool {
-    let mut x = h.seed as u16;
-    for i in 0..target.len() {
-        let mut expected = was(h, source, i, x);
-        if i < written.len() {
-            expected = written[i];
-        }
-        if target[i] != expected {
-            return false;
-        }
-        x = next_entry(x);
-    }
-    true
+fn choice_after(zeroed: usize, i: usize, x: u32) -> u16 {
+    if i < zeroed { 0 } else { choice_of(x) }
 }
 
-pub fn same_trellis(h: Head, trellis: &[u16]) -> bool {
-    let mut x = h.seed as u32;
+pub fn same_trellis(seed: u8, zeroed: usize, trellis: &[u16]) -> bool {
+    let mut x = seed as u32;
+    let mut same = true;
     for i in 0..trellis.len() {
-        let mut expected = choice_of(x);
-        if i < h.zeroed {
-            expected = 0;
-        }
-        if trellis[i] != expected {
-            return false;
-        }
+        same = same & (trellis[i] == choice_after(zeroed, i, x));
         x = next_choice(x);
     }
-    true
+    same
 }

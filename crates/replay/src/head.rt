@@ -1,21 +1,6 @@
-// The head of a record: numbers, big-endian.
+// The numbers at the head of a record (compare/FORMAT.md), big-endian. Each is read where it is needed; 0 where the list has ended.
 ghost use Prim.Native.Nat.{_≤_};
 
-pub struct Head {
-    pub entry: u8,
-    pub a: u64,
-    pub b: u64,
-    pub c: u64,
-    pub source: usize,
-    pub target: usize,
-    pub seed: u8,
-    pub trellis: usize,
-    pub answer: u64,
-    pub written: usize,
-    pub zeroed: usize,
-}
-
-// 0 where the list has ended.
 fn byte(s: &[u8], i: usize) -> u8 {
     if i < s.len() { s[i] } else { 0 }
 }
@@ -40,31 +25,58 @@ fn count(s: &[u8], high: usize, low: usize) -> usize
     byte(s, high) as usize * 256 + byte(s, low) as usize
 }
 
+pub fn entry(record: &[u8]) -> u8 {
+    byte(record, 0)
+}
+
+pub fn first(record: &[u8]) -> u64 {
+    number(record, 1, 9)
+}
+
+pub fn second(record: &[u8]) -> u64 {
+    number(record, 9, 17)
+}
+
+pub fn third(record: &[u8]) -> u64 {
+    number(record, 17, 19)
+}
+
+pub fn source_length(record: &[u8]) -> usize
+    ensures { λ r. ⌜ r ≤ 65535 ⌝ }
+{
+    count(record, 19, 20)
+}
+
 // The scrambler's source is its target too.
 pub fn is_lent(entry: u8) -> bool {
     (2 < entry) & (entry < 6)
 }
 
-pub fn head_of(s: &[u8]) -> Head
-    ensures { λ r. ⌜ (r .source ≤ 65535) × (r .written ≤ 65535) ⌝ }
+pub fn target_length(record: &[u8]) -> usize {
+    if is_lent(entry(record)) {
+        return count(record, 19, 20);
+    }
+    count(record, 21, 22)
+}
+
+pub fn seed(record: &[u8]) -> u8 {
+    byte(record, 23)
+}
+
+pub fn trellis_length(record: &[u8]) -> usize {
+    count(record, 24, 25)
+}
+
+pub fn answer(record: &[u8]) -> u64 {
+    number(record, 26, 34)
+}
+
+pub fn written_length(record: &[u8]) -> usize
+    ensures { λ r. ⌜ r ≤ 65535 ⌝ }
 {
-    let entry = byte(s, 0);
-    let source = count(s, 19, 20);
-    let mut target = count(s, 21, 22);
-    if is_lent(entry) {
-        target = source;
-    }
-    Head {
-        entry: entry,
-        a: number(s, 1, 9),
-        b: number(s, 9, 17),
-        c: number(s, 17, 19),
-        source: source,
-        target: target,
-        seed: byte(s, 23),
-        trellis: count(s, 24, 25),
-        answer: number(s, 26, 34),
-        written: count(s, 34, 35),
-        zeroed: count(s, 36, 37),
-    }
+    count(record, 34, 35)
+}
+
+pub fn zeroed(record: &[u8]) -> usize {
+    count(record, 36, 37)
 }

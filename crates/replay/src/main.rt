@@ -10,8 +10,6 @@ mod before;
 mod head;
 mod say;
 
-use head::Head;
-
 // What became of a request, and how many bytes its record has; 0 where the list ends before the record does.
 struct Turn {
     entry: u8,
@@ -19,21 +17,41 @@ struct Turn {
     length: usize,
 }
 
+fn is_lent(record: &[u8]) -> bool {
+    head::is_lent(head::entry(record))
+}
+
+fn fill(record: &[u8], source: &[u8], target: &mut [u8], trellis: &mut [u16]) {
+    let seed = head::seed(record);
+    before::fill_target(seed, is_lent(record), source, target);
+    before::fill_trellis(seed, trellis);
+}
+
+fn same_target(record: &[u8], source: &[u8], written: &[u8], target: &[u8]) -> bool {
+    before::same_target(head::seed(record), is_lent(record), source, written, target)
+}
+
+fn same_trellis(record: &[u8], trellis: &[u16]) -> bool {
+    before::same_trellis(head::seed(record), head::zeroed(record), trellis)
+}
+
+fn same_answer(record: &[u8], answer: u64) -> bool {
+    answer == head::answer(record)
+}
+
 // Whether the entry answers the request as the record says, with target and trellis of the record's lengths.
 fn asked_with(
-    h: Head,
+    record: &[u8],
     source: &[u8],
     written: &[u8],
     target: &mut [u8],
     trellis: &mut [u16],
 ) -> bool {
-    before::fill_target(h, source, target);
-    before::fill_trellis(h, trellis);
-    let answer = asked::answer(h, source, target, trellis);
-    if answer != h.answer {
-        return false;
-    }
-    before::same_target(h, source, written, target) & before::same_trellis(h, trellis)
+    fill(record, source, target, trellis);
+    let answer = asked::answer(record, source, target, trellis);
+    same_answer(record, answer)
+        & same_target(record, source, written, target)
+        & same_trellis(record, trellis)
 }
 
 // The length is all that lending the array needs.
@@ -44,14 +62,14 @@ fn trellis_room() -> [u16; 1024]
 }
 
 // A record of longer slices than these counts as one that differs.
-fn repeated(h: Head, source: &[u8], written: &[u8]) -> bool {
+fn repeated(record: &[u8], source: &[u8], written: &[u8]) -> bool {
     let mut target = io::large_buffer();
     let mut trellis = trellis_room();
-    let n = h.target;
-    let m = h.trellis;
+    let n = head::target_length(record);
+    let m = head::trellis_length(record);
     if n <= 65536 {
         if m <= 1024 {
-            return asked_with(h, source, written, &mut target[..n], &mut trellis[..m]);
+            return asked_with(record, source, written, &mut target[..n], &mut trellis[..m]);
         }
     }
     false
@@ -61,19 +79,19 @@ fn repeated(h: Head, source: &[u8], written: &[u8]) -> bool {
 fn record(rest: &[u8]) -> Turn
     ensures { λ r. ⌜ r .length ≤ length (now (rest .entry)) ⌝ }
 {
-    let h = head::head_of(rest);
-    let start = 38 + h.source;
-    let end = start + h.written;
+    let entry = head::entry(rest);
+    let start = 38 + head::source_length(rest);
+    let end = start + head::written_length(rest);
     if rest.len() < end {
         return Turn {
-            entry: h.entry,
+            entry: entry,
             equal: false,
             length: 0,
         };
     }
-    let equal = repeated(h, &rest[38..start], &rest[start..end]);
+    let equal = repeated(rest, &rest[38..start], &rest[start..end]);
     Turn {
-        entry: h.entry,
+        entry: entry,
         equal: equal,
         length: end,
     }

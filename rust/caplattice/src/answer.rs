@@ -1,89 +1,72 @@
-// The library's answers, taken apart: value + 2^32 case + 2^40 number.
+// The library's answers: the number that a function returns, and the members of what it says.
 use crate::convenc::Compared;
 use crate::errorcontrol::Received;
+use crate::raw::Answer;
 use crate::rm3014::Verdict;
 use crate::Refusal;
 
-const DONE: u8 = 0;
-const GOOD: u8 = 1;
-const BAD: u8 = 2;
-const CLEAN: u8 = 3;
-const MENDED: u8 = 4;
-const BEYOND: u8 = 5;
-const MATCHED: u8 = 6;
-const DIFFERS: u8 = 7;
-const REFUSED: u8 = 8;
+const GOOD: u64 = 1;
+const BAD: u64 = 2;
+const CLEAN: u64 = 3;
+const MENDED: u64 = 4;
+const BEYOND: u64 = 5;
+const MATCHED: u64 = 6;
+const DIFFERS: u64 = 7;
 
-#[derive(Clone, Copy)]
-pub struct Answer(pub u64);
+// Only a library of another version than this crate can answer so.
+fn stranger(what: impl std::fmt::Debug) -> ! {
+    panic!("libcaplattice.a answered {what:?}, which this crate does not know: they are not of one version")
+}
+
+// What a function that is done or refuses answers.
+pub fn done(number: u8) -> Result<(), Refusal> {
+    match (number, Refusal::from_number(number)) {
+        (0, _) => Ok(()),
+        (_, Some(refusal)) => Err(refusal),
+        (_, None) => stranger(number),
+    }
+}
+
+// What a function that has something to say answers.
+pub fn said(call: impl FnOnce(&mut Answer) -> u8) -> Result<Answer, Refusal> {
+    let mut answer = Answer::default();
+    done(call(&mut answer))?;
+    Ok(answer)
+}
+
+// The same of a function that never refuses.
+pub fn always_said(call: impl FnOnce(&mut Answer) -> u8) -> Answer {
+    said(call).unwrap_or_else(|refusal| stranger(refusal))
+}
 
 impl Answer {
-    pub fn value(self) -> u32 {
-        self.0 as u32
-    }
-
-    fn case(self) -> u8 {
-        (self.0 >> 32) as u8
-    }
-
-    fn number(self) -> u8 {
-        (self.0 >> 40) as u8
-    }
-
-    // Only a library of another version than this crate can answer so.
-    fn stranger(self) -> ! {
-        panic!(
-            "libcaplattice.a answered {:#x}, which this crate does not know: they are not of one version",
-            self.0
-        )
-    }
-
-    // The answer where it is no refusal.
-    fn accepted(self) -> Result<Answer, Refusal> {
-        if self.case() != REFUSED {
-            return Ok(self);
-        }
-        match Refusal::from_number(self.number()) {
-            Some(refusal) => Err(refusal),
-            None => self.stranger(),
+    pub fn received(self) -> Received {
+        let disagreements = self.disagreements as usize;
+        match self.verdict {
+            GOOD => Received::Good { disagreements },
+            BAD => Received::Bad { disagreements },
+            _ => stranger(self),
         }
     }
 
-    pub fn done(self) -> Result<u32, Refusal> {
-        let answer = self.accepted()?;
-        if answer.case() != DONE {
-            self.stranger()
-        }
-        Ok(answer.value())
-    }
-
-    pub fn received(self) -> Result<Received, Refusal> {
-        let disagreements = self.accepted()?.value() as usize;
-        match self.case() {
-            GOOD => Ok(Received::Good { disagreements }),
-            BAD => Ok(Received::Bad { disagreements }),
-            _ => self.stranger(),
-        }
-    }
-
-    pub fn verdict(self) -> Result<Verdict, Refusal> {
-        let data = self.accepted()?.value() as u16;
-        match self.case() {
-            CLEAN => Ok(Verdict::Clean { data }),
-            MENDED => Ok(Verdict::Mended {
+    pub fn found(self) -> Verdict {
+        let data = self.value as u16;
+        match self.verdict {
+            CLEAN => Verdict::Clean { data },
+            MENDED => Verdict::Mended {
                 data,
-                place: self.number(),
-            }),
-            BEYOND => Ok(Verdict::Beyond { data }),
-            _ => self.stranger(),
+                place: self.place as u8,
+            },
+            BEYOND => Verdict::Beyond { data },
+            _ => stranger(self),
         }
     }
 
     pub fn compared(self) -> Compared {
-        match self.case() {
-            MATCHED => Compared::Matched(self.value() as usize),
+        match self.verdict {
+            MATCHED => Compared::Matched(self.value as usize),
             DIFFERS => Compared::Differs,
-            _ => self.stranger(),
+            _ => stranger(self),
         }
     }
 }

@@ -1,4 +1,5 @@
 //! The convolutional encoders of control and speech, and puncturing.
+use crate::answer::{always_said, done, said};
 use crate::{raw, Refusal};
 
 /// A puncturing mode, by its number from 0 to 6.
@@ -79,15 +80,17 @@ impl ConvEncState {
     ///
     /// Refuses LIMIT over 4,096 bits, ROOM, and BIT for an input or a delayed bit over 1; the encoder then stays as it was.
     pub fn encode(&mut self, input: &[u8], output: &mut [u8]) -> Result<(), Refusal> {
-        let delays = raw::encode(u32::from_le_bytes(self.delayed), input, output).done()?;
-        self.delayed = delays.to_le_bytes();
+        let delays = u32::from_le_bytes(self.delayed);
+        let answer = said(|answer| raw::encode(delays, input, output, answer))?;
+        self.delayed = (answer.value as u32).to_le_bytes();
         Ok(())
     }
 
     /// The first three of the four generators: three entries for each bit. Refuses as [`ConvEncState::encode`] does.
     pub fn encode_rate1_3(&mut self, input: &[u8], output: &mut [u8]) -> Result<(), Refusal> {
-        let delays = raw::encode_rate1_3(u32::from_le_bytes(self.delayed), input, output).done()?;
-        self.delayed = delays.to_le_bytes();
+        let delays = u32::from_le_bytes(self.delayed);
+        let answer = said(|answer| raw::encode_rate1_3(delays, input, output, answer))?;
+        self.delayed = (answer.value as u32).to_le_bytes();
         Ok(())
     }
 }
@@ -116,8 +119,9 @@ impl SpeechConvEncState {
 
     /// The rate 1/3 mother code of the input: three entries for each bit. Refuses as [`ConvEncState::encode`] does.
     pub fn encode(&mut self, input: &[u8], output: &mut [u8]) -> Result<(), Refusal> {
-        let delays = raw::encode_speech(u32::from_le_bytes(self.delayed), input, output).done()?;
-        self.delayed = delays.to_le_bytes();
+        let delays = u32::from_le_bytes(self.delayed);
+        let answer = said(|answer| raw::encode_speech(delays, input, output, answer))?;
+        self.delayed = (answer.value as u32).to_le_bytes();
         Ok(())
     }
 }
@@ -126,19 +130,19 @@ impl SpeechConvEncState {
 ///
 /// Refuses LIMIT when `n` is over 4,096, SHORT when the mother word ends before the last kept place, and ROOM.
 pub fn get_punctured_rate(mode: RcpcPunctMode, input: &[u8], n: usize, output: &mut [u8]) -> Result<(), Refusal> {
-    raw::get_punctured_rate(mode as u8, input, n, output).done().map(drop)
+    done(raw::get_punctured_rate(mode as u8, input, n, output))
 }
 
 /// Puts `len` entries back to their places in a mother word; the other places stay.
 ///
 /// Refuses LIMIT when `len` is over 4,096, SHORT, and ROOM when the output ends before the last kept place.
 pub fn tetra_rcpc_depunct(mode: RcpcPunctMode, input: &[u8], len: usize, output: &mut [u8]) -> Result<(), Refusal> {
-    raw::tetra_rcpc_depunct(mode as u8, input, len, output).done().map(drop)
+    done(raw::tetra_rcpc_depunct(mode as u8, input, len, output))
 }
 
 /// Holds a mother word against a depunctured one, up to the shorter; 0xff in `depunct` is skipped.
 ///
 /// The count comes through a field of 32 bits: of 2^32 equal places it says 0.
 pub fn mother_memcmp(mother: &[u8], depunct: &[u8]) -> Compared {
-    raw::mother_memcmp(mother, depunct).compared()
+    always_said(|answer| raw::mother_memcmp(mother, depunct, answer)).compared()
 }

@@ -2,6 +2,7 @@
 //!
 //! Sending refuses SHORT, ROOM, and BIT for data that are no bits. Receiving control and speech refuses SHORT and ROOM
 //! alone: a symbol that is neither 0 nor 1 was not received. The trellis is lent room, one entry for each decoded bit.
+use crate::answer::{done, said};
 use crate::rm3014::Verdict;
 use crate::{raw, Refusal};
 
@@ -100,7 +101,7 @@ impl Received {
 
 /// Writes the air bits of a control block.
 pub fn encode_cp(kind: ControlKind, scrambling_code: u32, data: &[u8], air: &mut [u8]) -> Result<(), Refusal> {
-    raw::encode_cp(kind as u8, scrambling_code, data, air).done().map(drop)
+    done(raw::encode_cp(kind as u8, scrambling_code, data, air))
 }
 
 /// Writes the whole decoded word of a control block, its data first.
@@ -111,43 +112,43 @@ pub fn decode_cp(
     word: &mut [u8],
     trellis: &mut [u16],
 ) -> Result<Received, Refusal> {
-    raw::decode_cp(kind as u8, scrambling_code, air, word, trellis).received()
+    Ok(said(|answer| raw::decode_cp(kind as u8, scrambling_code, air, word, trellis, answer))?.received())
 }
 
 /// Writes the 432 air bits of 274 codec bits.
 pub fn encode_tp(scrambling_code: u32, codec: &[u8], air: &mut [u8]) -> Result<(), Refusal> {
-    raw::encode_tp(scrambling_code, codec, air).done().map(drop)
+    done(raw::encode_tp(scrambling_code, codec, air))
 }
 
 /// Writes the second 216 of those 432.
 pub fn encode_tp_half(scrambling_code: u32, codec: &[u8], air: &mut [u8]) -> Result<(), Refusal> {
-    raw::encode_tp_half(scrambling_code, codec, air).done().map(drop)
+    done(raw::encode_tp_half(scrambling_code, codec, air))
 }
 
 /// Writes the 274 codec bits of a slot of 432 symbols. An erased uncoded bit reads 0.
 pub fn decode_tp(scrambling_code: u32, air: &[u8], codec: &mut [u8], trellis: &mut [u16]) -> Result<Received, Refusal> {
-    raw::decode_tp(scrambling_code, air, codec, trellis).received()
+    Ok(said(|answer| raw::decode_tp(scrambling_code, air, codec, trellis, answer))?.received())
 }
 
 /// The same from the second half of a slot alone, 216 symbols. Half a slot does not determine all codec bits, so Good
 /// says that the check fits and no more.
 pub fn decode_tp_half(scrambling_code: u32, air: &[u8], codec: &mut [u8], trellis: &mut [u16]) -> Result<Received, Refusal> {
-    raw::decode_tp_half(scrambling_code, air, codec, trellis).received()
+    Ok(said(|answer| raw::decode_tp_half(scrambling_code, air, codec, trellis, answer))?.received())
 }
 
 /// Writes the 30 air bits of the access field's 14.
 pub fn encode_aach(scrambling_code: u32, data: &[u8], air: &mut [u8]) -> Result<(), Refusal> {
-    raw::encode_aach(scrambling_code, data, air).done().map(drop)
+    done(raw::encode_aach(scrambling_code, data, air))
 }
 
 /// The verdict on 30 received bits of the access field; refuses BIT for a symbol that is no bit.
 pub fn decode_aach(scrambling_code: u32, air: &[u8]) -> Result<Verdict, Refusal> {
-    raw::decode_aach(scrambling_code, air).verdict()
+    Ok(said(|answer| raw::decode_aach(scrambling_code, air, answer))?.found())
 }
 
 /// Writes the 8 check bits of the 60 most sensitive speech bits, from the lowest bits of the first 60 entries.
 ///
 /// Refuses SHORT below 60 and ROOM below 8.
 pub fn speech_crc(class2_bits: &[u8], check: &mut [u8]) -> Result<(), Refusal> {
-    raw::speech_crc(class2_bits, check).done().map(drop)
+    done(raw::speech_crc(class2_bits, check))
 }

@@ -46,6 +46,7 @@
 #![warn(missing_docs)]
 
 mod answer;
+#[rustfmt::skip]
 mod raw;
 mod refusal;
 
@@ -60,3 +61,8 @@ pub mod tch_reorder;
 pub mod viterbi;
 
 pub use refusal::Refusal;
+
+/// The version of the library that was linked: 1,000,000 times the major, 1,000 times the minor, and the patch number.
+pub fn version() -> u32 {
+    raw::version()
+}

@@ -1,4 +1,5 @@
 //! The shortened Reed-Muller code of 14 data bits in 30 (EN 300 392-2, 8.2.3.2).
+use crate::answer::said;
 use crate::{raw, Refusal};
 
 /// What a received word is.
@@ -36,26 +37,26 @@ impl Verdict {
 ///
 /// Refuses WORD from 16,384 on.
 pub fn tetra_rm3014_compute(input: u16) -> Result<u32, Refusal> {
-    raw::tetra_rm3014_compute(input).done()
+    Ok(said(|answer| raw::tetra_rm3014_compute(input, answer))?.value as u32)
 }
 
 /// The upper 14 bits of a word, uncorrected.
 ///
 /// Refuses WORD from 2^30 on.
 pub fn tetra_rm3014_decode_naive(codeword: u32) -> Result<u16, Refusal> {
-    raw::tetra_rm3014_decode_naive(codeword).done().map(|data| data as u16)
+    Ok(said(|answer| raw::tetra_rm3014_decode_naive(codeword, answer))?.value as u16)
 }
 
 /// The syndrome of a word: 0 for a code word.
 ///
 /// Refuses WORD from 2^30 on.
 pub fn compute_syndrome(codeword: u32) -> Result<u16, Refusal> {
-    raw::compute_syndrome(codeword).done().map(|syndrome| syndrome as u16)
+    Ok(said(|answer| raw::compute_syndrome(codeword, answer))?.value as u16)
 }
 
 /// The verdict on a word.
 ///
 /// Refuses WORD from 2^30 on.
 pub fn tetra_rm3014_decode_limited_ecc(codeword: u32) -> Result<Verdict, Refusal> {
-    raw::tetra_rm3014_decode_limited_ecc(codeword).verdict()
+    Ok(said(|answer| raw::tetra_rm3014_decode_limited_ecc(codeword, answer))?.found())
 }

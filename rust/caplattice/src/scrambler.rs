@@ -1,4 +1,5 @@
 //! Scrambling: the outputs of a 32-bit register, added to bits.
+use crate::answer::{done, said};
 use crate::{raw, Refusal};
 
 /// The start value of the synchronisation channel.
@@ -13,7 +14,7 @@ pub fn tetra_scramb_get_bits(lfsr_init: u32, out: &mut [u8]) {
 ///
 /// Refuses BIT when an entry exceeds 1.
 pub fn tetra_scramb_bits(lfsr_init: u32, bits: &mut [u8]) -> Result<(), Refusal> {
-    raw::tetra_scramb_bits(lfsr_init, bits).done().map(drop)
+    done(raw::tetra_scramb_bits(lfsr_init, bits))
 }
 
 /// For receiving: takes the outputs off the symbols 0 and 1 and turns every other byte to 0xff.
@@ -25,5 +26,6 @@ pub fn tetra_descramb_bits(lfsr_init: u32, symbols: &mut [u8]) {
 ///
 /// Refuses FIELD when `mcc` is over 1,023, `mnc` over 16,383 or `colour` over 63.
 pub fn tetra_scramb_get_init(mcc: u16, mnc: u16, colour: u8) -> Result<u32, Refusal> {
-    raw::tetra_scramb_get_init(mcc, mnc, colour).done()
+    let answer = said(|answer| raw::tetra_scramb_get_init(mcc, mnc, colour, answer))?;
+    Ok(answer.value as u32)
 }

@@ -10,21 +10,27 @@ large-buffer-requires c κs = search needs
 trellis-room-requires : tie.Need-trellis-room-requires
 trellis-room-requires c κs = search needs
 
+target-length-requires : tie.Need-target-length-requires
+target-length-requires c κs = search needs
+
+trellis-length-requires : tie.Need-trellis-length-requires
+trellis-length-requires c κs = search needs
+
 array-borrow-prefix-target : tie.Need-array-borrow-prefix-target
 array-borrow-prefix-target c = search needs
 
 slice-aggregate-asked-with : tie.Need-slice-aggregate-asked-with
 slice-aggregate-asked-with c =
-    let room = c .before .before .before .before .large-buffer in
-    sym (length-take-le (c .before .before .before .before .before .before .before .args .h .target) (room .result) (search needs))
+    let after = c .before .before .before .before in
+    sym (length-take-le (after .target-length .result) (after .before .before .large-buffer .result) (search needs))
 
 array-borrow-prefix-trellis : tie.Need-array-borrow-prefix-trellis
 array-borrow-prefix-trellis c = search needs
 
 slice-aggregate-asked-with-2 : tie.Need-slice-aggregate-asked-with-2
 slice-aggregate-asked-with-2 c =
-    let room = c .before .before .before .before .trellis-room in
-    sym (length-take-le (c .before .before .before .before .before .before .before .before .args .h .trellis) (room .result) (search needs))
+    let after = c .before .before .before .before in
+    sym (length-take-le (after .trellis-length .result) (after .before .before .trellis-room .result) (search needs))
 
 asked-with-requires : tie.Need-asked-with-requires
 asked-with-requires c κs = search needs
@@ -44,6 +50,8 @@ repeated-spec =
     (tie.spec
     large-buffer-requires
     trellis-room-requires
+    target-length-requires
+    trellis-length-requires
     array-borrow-prefix-target
     slice-aggregate-asked-with
     array-borrow-prefix-trellis

@@ -4,11 +4,10 @@ use borrow.Author.Needs.{needs}
 use Rattle.replay.proofs.asked.comparing.Statement.{statement}
 use Rattle.replay.proofs.asked.comparing.Tie as tie
 
-size-requires : tie.Need-size-requires
-size-requires c κs = search needs
-
 slice-aggregate-caplattice-mother-memcmp : tie.Need-slice-aggregate-caplattice-mother-memcmp
-slice-aggregate-caplattice-mother-memcmp c = sym (length-take-le (c .before .before .size .result) (c .before .before .before .before .args .source .now) (search needs))
+slice-aggregate-caplattice-mother-memcmp c =
+    let g = c .before .before .before .args in
+    sym (length-take-le (g .n) (g .source .now) (search needs))
 
 sub-caplattice-mother-memcmp : tie.Need-sub-caplattice-mother-memcmp
 sub-caplattice-mother-memcmp c = search needs
@@ -32,7 +31,6 @@ pub comparing-spec : {M : Type 1} → statement M
 comparing-spec =
     tie.close
     (tie.spec
-    size-requires
     slice-aggregate-caplattice-mother-memcmp
     sub-caplattice-mother-memcmp
     part-caplattice-mother-memcmp-start

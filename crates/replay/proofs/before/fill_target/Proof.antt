@@ -6,13 +6,10 @@ use Rattle.replay.proofs.before.fill_target.Statement.{statement}
 use Rattle.replay.proofs.before.fill_target.Tie as tie
 
 abbrev Inv-loop : tie.InvT-loop
-Inv-loop h source target₀ x₀ i₀ i-end target x i = (length target ≡ i-end) × (length target ≡ length target₀)
+Inv-loop seed lent source target₀ x₀ i₀ i-end target x i = (length target ≡ i-end) × (length target ≡ length target₀)
 
 abbrev μ-loop : tie.MeasureT-loop
-μ-loop h source target₀ x₀ i₀ i-end target x i = i-end - i
-
-cast-x : tie.Need-cast-x Inv-loop μ-loop
-cast-x c = search needs
+μ-loop seed lent source target₀ x₀ i₀ i-end target x i = i-end - i
 
 loop-holds : tie.Need-loop-holds Inv-loop μ-loop
 loop-holds c = search needs
@@ -47,7 +44,6 @@ fill-target-spec =
     (tie.spec
     Inv-loop
     μ-loop
-    cast-x
     loop-holds
     was-requires
     slice-write-target

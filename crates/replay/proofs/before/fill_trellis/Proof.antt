@@ -6,13 +6,10 @@ use Rattle.replay.proofs.before.fill_trellis.Statement.{statement}
 use Rattle.replay.proofs.before.fill_trellis.Tie as tie
 
 abbrev Inv-loop : tie.InvT-loop
-Inv-loop trellis₀ x₀ i₀ i-end trellis x i = (length trellis ≡ i-end) × (length trellis ≡ length trellis₀)
+Inv-loop seed trellis₀ x₀ i₀ i-end trellis x i = (length trellis ≡ i-end) × (length trellis ≡ length trellis₀)
 
 abbrev μ-loop : tie.MeasureT-loop
-μ-loop trellis₀ x₀ i₀ i-end trellis x i = i-end - i
-
-cast-x : tie.Need-cast-x Inv-loop μ-loop
-cast-x c = search needs
+μ-loop seed trellis₀ x₀ i₀ i-end trellis x i = i-end - i
 
 loop-holds : tie.Need-loop-holds Inv-loop μ-loop
 loop-holds c = search needs
@@ -50,7 +47,6 @@ fill-trellis-spec =
     (tie.spec
     Inv-loop
     μ-loop
-    cast-x
     loop-holds
     choice-of-requires
     mul-trellis

@@ -4,28 +4,22 @@ use Rattle.replay.proofs.before.same_target.Statement.{statement}
 use Rattle.replay.proofs.before.same_target.Tie as tie
 
 abbrev Inv-loop : tie.InvT-loop
-Inv-loop h source written target x₀ i₀ i-end x i = Unit {0}
+Inv-loop seed lent source written target x₀ same₀ i₀ i-end x same i = Unit {0}
 
 abbrev μ-loop : tie.MeasureT-loop
-μ-loop h source written target x₀ i₀ i-end x i = i-end - i
-
-cast-x : tie.Need-cast-x Inv-loop μ-loop
-cast-x c = search needs
+μ-loop seed lent source written target x₀ same₀ i₀ i-end x same i = i-end - i
 
 loop-holds : tie.Need-loop-holds Inv-loop μ-loop
 loop-holds c = search needs
 
+shared-slice-read-same : tie.Need-shared-slice-read-same Inv-loop μ-loop
+shared-slice-read-same c = search needs
+
 was-requires : tie.Need-was-requires Inv-loop μ-loop
 was-requires c κs = search needs
 
-shared-slice-read-expected : tie.Need-shared-slice-read-expected Inv-loop μ-loop
-shared-slice-read-expected c = search needs
-
-shared-slice-read-if2 : tie.Need-shared-slice-read-if2 Inv-loop μ-loop
-shared-slice-read-if2 c = search needs
-
-returns : tie.Need-returns Inv-loop μ-loop
-returns c = search needs
+after-requires : tie.Need-after-requires Inv-loop μ-loop
+after-requires c κs = search needs
 
 next-entry-requires : tie.Need-next-entry-requires Inv-loop μ-loop
 next-entry-requires c κs = search needs
@@ -39,8 +33,8 @@ loop-less c = search needs
 loop-again : tie.Need-loop-again Inv-loop μ-loop
 loop-again c = search needs
 
-returns-2 : tie.Need-returns-2 Inv-loop μ-loop
-returns-2 c = search needs
+returns : tie.Need-returns Inv-loop μ-loop
+returns c = search needs
 
 pub same-target-spec : {M : Type 1} → statement M
 same-target-spec =
@@ -48,14 +42,12 @@ same-target-spec =
     (tie.spec
     Inv-loop
     μ-loop
-    cast-x
     loop-holds
+    shared-slice-read-same
     was-requires
-    shared-slice-read-expected
-    shared-slice-read-if2
-    returns
+    after-requires
     next-entry-requires
     add-i
     loop-less
     loop-again
-    returns-2)
+    returns)

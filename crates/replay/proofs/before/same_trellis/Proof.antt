@@ -4,28 +4,22 @@ use Rattle.replay.proofs.before.same_trellis.Statement.{statement}
 use Rattle.replay.proofs.before.same_trellis.Tie as tie
 
 abbrev Inv-loop : tie.InvT-loop
-Inv-loop h trellis x₀ i₀ i-end x i = Unit {0}
+Inv-loop seed zeroed trellis x₀ same₀ i₀ i-end x same i = Unit {0}
 
 abbrev μ-loop : tie.MeasureT-loop
-μ-loop h trellis x₀ i₀ i-end x i = i-end - i
-
-cast-x : tie.Need-cast-x Inv-loop μ-loop
-cast-x c = search needs
+μ-loop seed zeroed trellis x₀ same₀ i₀ i-end x same i = i-end - i
 
 loop-holds : tie.Need-loop-holds Inv-loop μ-loop
 loop-holds c = search needs
 
-choice-of-requires : tie.Need-choice-of-requires Inv-loop μ-loop
-choice-of-requires c κs = search needs
+mul-same : tie.Need-mul-same Inv-loop μ-loop
+mul-same c = search needs
 
-mul-if2 : tie.Need-mul-if2 Inv-loop μ-loop
-mul-if2 c = search needs
+shared-slice-read-same : tie.Need-shared-slice-read-same Inv-loop μ-loop
+shared-slice-read-same c = search needs
 
-shared-slice-read-if2 : tie.Need-shared-slice-read-if2 Inv-loop μ-loop
-shared-slice-read-if2 c = search needs
-
-returns : tie.Need-returns Inv-loop μ-loop
-returns c = search needs
+choice-after-requires : tie.Need-choice-after-requires Inv-loop μ-loop
+choice-after-requires c κs = search needs
 
 next-choice-requires : tie.Need-next-choice-requires Inv-loop μ-loop
 next-choice-requires c κs = search needs
@@ -39,8 +33,8 @@ loop-less c = search needs
 loop-again : tie.Need-loop-again Inv-loop μ-loop
 loop-again c = search needs
 
-returns-2 : tie.Need-returns-2 Inv-loop μ-loop
-returns-2 c = search needs
+returns : tie.Need-returns Inv-loop μ-loop
+returns c = search needs
 
 pub same-trellis-spec : {M : Type 1} → statement M
 same-trellis-spec =
@@ -48,14 +42,12 @@ same-trellis-spec =
     (tie.spec
     Inv-loop
     μ-loop
-    cast-x
     loop-holds
-    choice-of-requires
-    mul-if2
-    shared-slice-read-if2
-    returns
+    mul-same
+    shared-slice-read-same
+    choice-after-requires
     next-choice-requires
     add-i
     loop-less
     loop-again
-    returns-2)
+    returns)

@@ -1,0 +1,10 @@
+// The version. Made by boundary/make from the file VERSION.
+ghost use mathlib.Core.Path.{_≡_};
+ghost use Rattle.caplattice.specs.Version.{version};
+
+#[no_mangle]
+pub extern "C" fn caplattice_version() -> u32
+    ensures { λ r. ⌜ r ≡ version 0 1 0 ⌝ }
+{
+    1000
+}
