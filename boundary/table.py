@@ -1,4 +1,5 @@
 """Reads boundary/functions.txt, the one table of the public functions."""
+import re
 from collections import namedtuple
 from pathlib import Path
 
@@ -56,7 +57,7 @@ def groups():
         elif paragraph and (not line or line[0] != " "):
             found[-1].functions.append(function_of(paragraph))
             paragraph = []
-        if line and line[0] not in " [" and " " not in line:
+        if re.fullmatch(r"[a-z]\w*", line):
             paragraph = [line]
         elif paragraph:
             paragraph.append(line)

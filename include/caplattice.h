@@ -55,7 +55,7 @@ enum caplattice_verdict {
     CAPLATTICE_DIFFERS  /* they do not */
 };
 
-/* What a function has to say besides its refusal. After success all six members are set; those that the function does not speak of are 0. */
+/* What a function has to say besides its refusal. After success all six members are set; what the function does not speak of is 0. */
 typedef struct caplattice_answer {
     uint64_t verdict;       /* an enum caplattice_verdict */
     uint64_t value;         /* what was asked for: a register, a start value, a word, data bits, a count, an encoder's delays */
@@ -69,7 +69,8 @@ typedef struct caplattice_answer {
 
 /* ---- Check register
  *
- * The 16-bit register of ITU-T with the generator 0x1021. The control check starts it at 0xffff; data followed by its check leaves 0x1d0f. */
+ * The 16-bit register of ITU-T with the generator 0x1021. The control check starts it at 0xffff; data followed by its check leaves
+ * 0x1d0f. */
 
 /* The register after the lowest bits of the first n entries, or of all entries if there are fewer.
  *   crc:      the register to begin with
@@ -96,8 +97,8 @@ uint8_t caplattice_crc16_ccitt_bits(const uint8_t *source, size_t source_len, si
 
 /* ---- Scrambling
  *
- * A 32-bit register whose outputs are added to bits. The one slice is source and target both, and all of it is rewritten. A start value of 0
- * changes nothing. */
+ * A 32-bit register whose outputs are added to bits. The one slice is source and target both, and all of it is rewritten. From a start
+ * value of 0 all outputs are 0. */
 
 /* The scrambler's outputs.
  *   start:    the register to begin with
@@ -140,8 +141,8 @@ uint8_t caplattice_tetra_scramb_get_init(uint16_t mcc, uint16_t mnc, uint8_t col
  * Writes the first k entries of target.
  * Refuses LIMIT (k is over 4,096 or a over 65,535), SHUFFLE (a whole number above 1 divides both k and a), SHORT (source), ROOM
  *         (target). */
-uint8_t caplattice_block_interleave(size_t k, size_t a, const uint8_t *source, size_t source_len, uint8_t *target, size_t
-    target_len);
+uint8_t caplattice_block_interleave(size_t k, size_t a, const uint8_t *source, size_t source_len, uint8_t *target,
+    size_t target_len);
 
 /* The inverse of block_interleave.
  *   k:        entries, up to 4,096
@@ -151,8 +152,8 @@ uint8_t caplattice_block_interleave(size_t k, size_t a, const uint8_t *source, s
  * Writes the first k entries of target.
  * Refuses LIMIT (k is over 4,096 or a over 65,535), SHUFFLE (a whole number above 1 divides both k and a), SHORT (source), ROOM
  *         (target). */
-uint8_t caplattice_block_deinterleave(size_t k, size_t a, const uint8_t *source, size_t source_len, uint8_t *target, size_t
-    target_len);
+uint8_t caplattice_block_deinterleave(size_t k, size_t a, const uint8_t *source, size_t source_len, uint8_t *target,
+    size_t target_len);
 
 /* Entry j columns + i goes to i lines + j, both counted from 0.
  *   lines:    up to 4,096
@@ -259,7 +260,8 @@ uint8_t caplattice_encode_speech(uint32_t delays, const uint8_t *source, size_t 
 
 /* ---- Puncturing
  *
- * Output j of a mode, counted from 1, is the mother entry at k(j) = period b + P[i - t b], where b = (i - 1) div t:
+ * Output j of a mode, counted from 1, is the mother entry at k(j) = period b + P[i - t b], where b = (i - 1) div t and P is
+ * counted from 1:
  *
  *     mode  name     t   period  i(j)                  P
  *     0     2_3      3   8       j                     1 2 5
@@ -272,25 +274,25 @@ uint8_t caplattice_encode_speech(uint32_t delays, const uint8_t *source, size_t 
  *
  * So n outputs need k(n) mother entries, and none if n is 0. Entries are bytes of any value. */
 
-/* N outputs of a mother word.
+/* The first n outputs of a mother word.
  *   mode:     0 to 6
  *   source:   the mother word, k(n) entries
  *   n:        outputs, up to 4,096
  *   target:   room for n
  * Writes the first n entries of target.
  * Refuses KIND (mode is over 6), LIMIT (n is over 4,096), SHORT (source), ROOM (target). */
-uint8_t caplattice_get_punctured_rate(uint8_t mode, const uint8_t *source, size_t source_len, size_t n, uint8_t *target, size_t
-    target_len);
+uint8_t caplattice_get_punctured_rate(uint8_t mode, const uint8_t *source, size_t source_len, size_t n, uint8_t *target,
+    size_t target_len);
 
-/* N outputs back at their places in the mother word.
+/* The first n outputs back at their places in the mother word.
  *   mode:     0 to 6
  *   source:   n entries
  *   n:        outputs, up to 4,096
  *   target:   room for k(n); fill it with 0xff before, so that what was not sent is an erasure
  * Writes the n kept places of target; the others stay.
  * Refuses KIND (mode is over 6), LIMIT (n is over 4,096), SHORT (source), ROOM (target). */
-uint8_t caplattice_tetra_rcpc_depunct(uint8_t mode, const uint8_t *source, size_t source_len, size_t n, uint8_t *target, size_t
-    target_len);
+uint8_t caplattice_tetra_rcpc_depunct(uint8_t mode, const uint8_t *source, size_t source_len, size_t n, uint8_t *target,
+    size_t target_len);
 
 /* A mother word held against a depunctured one, up to the shorter; 0xff in the second is skipped.
  *   mother:   the mother word
@@ -303,9 +305,9 @@ uint8_t caplattice_mother_memcmp(const uint8_t *mother, size_t mother_len, const
 
 /* ---- Decoding
  *
- * The nearest word: of all words of n bits whose last four are 0 (or all n, if n is under 4), the one whose encoding disagrees with the fewest
- * of the symbols that were received; of several, the one that has 0 at the last place where they differ. In a symbol 0 and 1 are bits,
- * and every other byte is an erasure. The trellis is the decoder's workspace. */
+ * The nearest word: of all words of n bits whose last four are 0 (or all n, if n is under 4), the one whose encoding disagrees with the
+ * fewest of the symbols that were received; of several, the one that has 0 at the last place where they differ. The trellis is the
+ * decoder's workspace; what it holds before does not matter. */
 
 /* The nearest word to control symbols, four per bit.
  *   source:   4 n symbols
@@ -315,8 +317,8 @@ uint8_t caplattice_mother_memcmp(const uint8_t *mother, size_t mother_len, const
  * Writes the first n entries of target, and 0 to the first n of trellis.
  * Says disagreements: how many received symbols the word's encoding disagrees with.
  * Refuses LIMIT (n is over 864), SHORT (source), ROOM (target or trellis). */
-uint8_t caplattice_dec_sb1(const uint8_t *source, size_t source_len, uint8_t *target, size_t target_len, size_t n, uint16_t
-    *trellis, size_t trellis_len, caplattice_answer *answer);
+uint8_t caplattice_dec_sb1(const uint8_t *source, size_t source_len, uint8_t *target, size_t target_len, size_t n,
+    uint16_t *trellis, size_t trellis_len, caplattice_answer *answer);
 
 /* The nearest word to speech symbols, three per bit.
  *   source:   3 n symbols
@@ -326,8 +328,8 @@ uint8_t caplattice_dec_sb1(const uint8_t *source, size_t source_len, uint8_t *ta
  * Writes the first n entries of target, and 0 to the first n of trellis.
  * Says disagreements: how many received symbols the word's encoding disagrees with.
  * Refuses LIMIT (n is over 864), SHORT (source), ROOM (target or trellis). */
-uint8_t caplattice_dec_speech(const uint8_t *source, size_t source_len, uint8_t *target, size_t target_len, size_t n, uint16_t
-    *trellis, size_t trellis_len, caplattice_answer *answer);
+uint8_t caplattice_dec_speech(const uint8_t *source, size_t source_len, uint8_t *target, size_t target_len, size_t n,
+    uint16_t *trellis, size_t trellis_len, caplattice_answer *answer);
 
 /* ---- Speech check */
 
@@ -355,8 +357,8 @@ uint8_t caplattice_speech_crc(const uint8_t *source, size_t source_len, uint8_t 
  *   target:   room for the kind's air symbols
  * Writes the kind's air symbols at the front of target.
  * Refuses KIND (kind is not 1 to 4), SHORT (source), ROOM (target), BIT (an entry of source that is used is over 1). */
-uint8_t caplattice_encode_cp(uint8_t kind, uint32_t start, const uint8_t *source, size_t source_len, uint8_t *target, size_t
-    target_len);
+uint8_t caplattice_encode_cp(uint8_t kind, uint32_t start, const uint8_t *source, size_t source_len, uint8_t *target,
+    size_t target_len);
 
 /* The nearest word to received air symbols.
  *   kind:     1 to 4
@@ -368,8 +370,8 @@ uint8_t caplattice_encode_cp(uint8_t kind, uint32_t start, const uint8_t *source
  * Says verdict: GOOD if the word's check fits its data, otherwise BAD.
  * Says disagreements: how many received symbols the word's encoding disagrees with.
  * Refuses KIND (kind is not 1 to 4), SHORT (source), ROOM (target or trellis). */
-uint8_t caplattice_decode_cp(uint8_t kind, uint32_t start, const uint8_t *source, size_t source_len, uint8_t *target, size_t
-    target_len, uint16_t *trellis, size_t trellis_len, caplattice_answer *answer);
+uint8_t caplattice_decode_cp(uint8_t kind, uint32_t start, const uint8_t *source, size_t source_len, uint8_t *target,
+    size_t target_len, uint16_t *trellis, size_t trellis_len, caplattice_answer *answer);
 
 /* ---- Speech slots
  *
