@@ -1,16 +1,17 @@
 -- Demand 3 for a control block, over what `decode_cp` answers and writes.
 -- Assumes nothing.
-use mathlib.Core.Path.{_≡_, sym, ap, _∙_}
-use mathlib.Core.List.{List}
-use mathlib.Core.Bool.{true}
+use mathlib.Core.Path.{_≡_, refl, sym, ap, _∙_}
+use mathlib.Core.List.{List, _++_}
+use mathlib.Core.Bool.{Bool, true, false}
 use Prim.Native.Nat.{ℕ, _+_, _*_, _%_, _≤_, _<_}
 use native.Mathlib.Omega.{arith}
-use lib.ListN.{length, take, drop, getD, replicate, length-replicate, getD-replicate}
-use lib.Seq.{length-take-le, getD-take}
+use lib.ListN.{length, take, drop, getD, replicate, length-drop, length-replicate, getD-replicate}
+use lib.Seq.{length-take-le, getD-take, take-append-le, drop-append-le}
 use Rattle.base.specs.declared.Counts.{Counts}
 use Rattle.base.specs.Bits.{Bits, ERASED, disagrees}
 use Rattle.base.specs.Places.{written}
-use Rattle.base.specs.Refusal.{unless}
+use Rattle.base.specs.declared.Received.the-variants.{Good}
+use Rattle.base.specs.Refusal.{unless, checked, reception}
 use Rattle.base.proofs.BitLaws.{bits-at}
 use Rattle.base.proofs.Moves.{Onto, scatter-length, scatter-hit, scatter-miss, gather-at}
 use Rattle.trellis.specs.Nearest.{encode}
@@ -120,14 +121,6 @@ module _ (kind : ℕ) (valid : isKind kind ≡ true) (start : ℕ) (air : List �
   weighs w e =
       mother-weighs control (wordBits kind) (mother kind start air) (omega (arith, mother-length kind start air)) w e ∙ route-distance route w e
 
-  -- Good says that the decoded check is the check of the decoded data; `check-good` is the other way
-  pub good-on-air : good kind (wordFrom kind start air) ≡ true
-      → take 16 (drop (dataBits kind) (wordFrom kind start air)) ≡ check (take (dataBits kind) (wordFrom kind start air))
-  unfolding wordFrom
-  good-on-air =
-      good-check kind (wordFrom kind start air) (nearest-bits (disagreements control (wordBits kind) (mother kind start air)) (wordBits kind))
-      (omega (arith, nearest-length (disagreements control (wordBits kind) (mother kind start air)) (wordBits kind), row kind valid .word))
-
 -- ---- demand 3
 module _ {kind start : ℕ} {air : List ℕ} {count : ℕ} {word word′ : List ℕ} (u : Unrefused (Receives kind start) air count word word′) where
   -- the number that was not given
@@ -160,3 +153,47 @@ decoder kind start =
 pub decode-cp-right : (kind start : ℕ) (air : List ℕ) (count : ℕ) (word word′ : List ℕ) → Unrefused (Receives kind start) air count word word′
     → HeardRight (controlChannel kind start) (Unrefused (Receives kind start)) itself air count word word′
 decode-cp-right kind start = heard-right (decoder kind start)
+
+-- ---- Good
+decoded-length : (kind start : ℕ) (air : List ℕ) → length (wordFrom kind start air) ≡ wordBits kind
+unfolding wordFrom
+decoded-length kind start air = nearest-length (disagreements control (wordBits kind) (mother kind start air)) (wordBits kind)
+
+decoded-bits : (kind start : ℕ) (air : List ℕ) → Bits (wordFrom kind start air)
+unfolding wordFrom
+decoded-bits kind start air = nearest-bits (disagreements control (wordBits kind) (mother kind start air)) (wordBits kind)
+
+agreed : (g : Bool) (c d : Counts) → Good c ≡ checked g d → g ≡ true
+agreed true c d e = refl
+agreed false c d e = let z : _≡_ {A = ℕ} 0 1 = cc in absurd (omega arith)
+
+-- Good says that the 16 entries written after the data are the check of the data written; `check-good` is the other way
+pub good-checks : (kind start : ℕ) (air word trellis word′ trellis′ : List ℕ) (counts : Counts) → Receives kind start air word trellis (Good counts) word′ trellis′
+    → take 16 (drop (dataBits kind) word′) ≡ check (take (dataBits kind) word′)
+good-checks kind start air word trellis word′ trellis′ counts r =
+    ap (λ (l : List ℕ). take 16 (drop d l)) is ∙ ap (take 16) (drop-append-le d w rest (omega (arith, long))) ∙ take-append-le 16 (drop d w) rest (omega (arith, long, length-drop d w))
+    ∙ good-check kind w (decoded-bits kind start air) (omega (arith, long)) said
+    ∙ ap check (sym (ap (take d) is ∙ take-append-le d w rest (omega (arith, long))))
+  where
+    d : ℕ
+    d = dataBits kind
+
+    w : List ℕ
+    w = wordFrom kind start air
+
+    rest : List ℕ
+    rest = drop (length w) word
+
+    u : Unrefused (Receives kind start) air (counts .disagreements) word word′
+    u = record { good = true; counts = counts; counted = refl; trellis = trellis; trellis′ = trellis′; call = r }
+
+    is : word′ ≡ w ++ rest
+    is = writes-word u
+
+    long : length w ≡ d + 20
+    long = decoded-length kind start air ∙ row kind (accepts u .known) .word
+
+    said : good kind w ≡ true
+    said =
+        agreed (good kind w) counts (countsOf kind start air)
+        (r .answered ∙ ap (λ (n : ℕ). reception n (good kind w) (countsOf kind start air)) (unrefused u .0))
