@@ -5,6 +5,7 @@ import struct
 import sys
 from collections import namedtuple
 
+sys.dont_write_bytecode = True
 sys.path.insert(0, os.path.join(os.path.dirname(os.path.abspath(__file__)), "..", "boundary"))
 import table
 
