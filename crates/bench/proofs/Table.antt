@@ -11,7 +11,7 @@ use Rattle.crc16.specs.Crc.{step, register}
 use Rattle.scrambler.specs.Scrambling.{newBit, next, output, startValue}
 use Rattle.scrambler.proofs.Outputs.{output-zero}
 use Rattle.convenc.specs.Generators.{tapped}
-use Rattle.convenc.specs.Puncturing.{position, positionOf}
+use Rattle.puncturing.specs.Puncturing.{position, positionOf}
 use Rattle.rm3014.specs.Code.{table, parity, codeWord, columns, syndrome, placeOf}
 use Rattle.speech_crc.specs.Check.{divided, speechCheck}
 use Rattle.bench.specs.Values.{BenchValues}

@@ -11,7 +11,7 @@ use Rattle.trellis.specs.Nearest.{encode}
 use Rattle.crc16.specs.Crc.{register}
 use Rattle.scrambler.specs.Scrambling.{output, startValue, fieldRefusal}
 use Rattle.convenc.specs.Generators.{outputs, control, speech}
-use Rattle.convenc.specs.Puncturing.{position}
+use Rattle.puncturing.specs.Puncturing.{position}
 use Rattle.rm3014.specs.Code.{codeWord}
 use Rattle.rm3014.specs.Verdict.{verdict}
 use Rattle.rm3014.specs.declared.Verdict.the-variants.{Beyond}

@@ -19,8 +19,8 @@ use Rattle.rm3014.specs.declared.Verdict.{Verdict}
 use Rattle.rm3014.specs.declared.Verdict.the-variants as verdicts
 use Rattle.rm3014.specs.declared.Judged.{Judged}
 use Rattle.rm3014.specs.declared.Judged.the-variants as judges
-use Rattle.convenc.specs.declared.Compared.{Compared}
-use Rattle.convenc.specs.declared.Compared.the-variants as comparisons
+use Rattle.comparing.specs.declared.Compared.{Compared}
+use Rattle.comparing.specs.declared.Compared.the-variants as comparisons
 use Rattle.viterbi.specs.declared.Decoded.{Decoded}
 use Rattle.viterbi.specs.declared.Decoded.the-variants as decodings
 

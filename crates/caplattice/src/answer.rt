@@ -6,7 +6,7 @@ ghost use Rattle.caplattice.specs.Answer.{saying, valueReport, outcomeRe
 ghost use Rattle.caplattice.specs.Promises.{Reports};
 use base::Outcome;
 use base::Received;
-use convenc::Compared;
+use comparing::Compared;
 use crc16::Register;
 use rm3014::Coded;
 use rm3014::Judged;

@@ -4,8 +4,8 @@ ghost use mathlib.Core.Path.{_≡_};
 ghost use lib.ListN.{length};
 ghost use Rattle.base.specs.Places.{written};
 ghost use Rattle.convenc.specs.Generators.{control, controlThird, speech};
-ghost use Rattle.convenc.specs.Puncturing.{punctureRefusal, punctured, depunctureRefusal, depunctured};
-ghost use Rattle.convenc.specs.Comparing.{compare, compared};
+ghost use Rattle.puncturing.specs.Puncturing.{punctureRefusal, punctured, depunctureRefusal, depunctured};
+ghost use Rattle.comparing.specs.Comparing.{compare, compared};
 ghost use Rattle.viterbi.specs.Decoding.{Decodes};
 ghost use Rattle.caplattice.specs.Answer.{comparedReport, decodedReport};
 ghost use Rattle.caplattice.specs.Promises.{Answers, Refuses, Leaves, Encodes};
@@ -76,7 +76,7 @@ pub extern "C" fn caplattice_get_punctured_rate(
 ) -> u8
     ensures { λ r. ⌜ Refuses (Leaves (punctureRefusal mode n (length (now (source .entry))) (length (now (target .entry)))) (written (punctured mode n (now (source .entry))) (now (target .entry))) (now (target .entry)) (now (target .exit))) r ⌝ }
 {
-    answer::refusal_of(convenc::get_punctured_rate(mode, source, n, target))
+    answer::refusal_of(puncturing::get_punctured_rate(mode, source, n, target))
 }
 
 #[no_mangle]
@@ -88,7 +88,7 @@ pub extern "C" fn caplattice_tetra_rcpc_depunct(
 ) -> u8
     ensures { λ r. ⌜ Refuses (Leaves (depunctureRefusal mode n (length (now (source .entry))) (length (now (target .entry)))) (depunctured mode n (now (source .entry)) (now (target .entry))) (now (target .entry)) (now (target .exit))) r ⌝ }
 {
-    answer::refusal_of(convenc::tetra_rcpc_depunct(mode, source, n, target))
+    answer::refusal_of(puncturing::tetra_rcpc_depunct(mode, source, n, target))
 }
 
 #[no_mangle]
@@ -99,7 +99,7 @@ pub extern "C" fn caplattice_mother_memcmp(
 ) -> u8
     ensures { λ r. ⌜ Answers comparedReport (λ x. x ≡ compared (compare (now (mother .entry)) (now (depunct .entry)))) (now (answer .entry)) (now (answer .exit)) r ⌝ }
 {
-    answer::tell_compared(convenc::mother_memcmp(mother, depunct), answer)
+    answer::tell_compared(comparing::mother_memcmp(mother, depunct), answer)
 }
 
 #[no_mangle]

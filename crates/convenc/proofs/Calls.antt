@@ -15,10 +15,9 @@ use Rattle.base.specs.Places.{written}
 use Rattle.base.proofs.BitLaws.{bits-only-yes, bits-only-bits}
 use Rattle.trellis.specs.Nearest.{encode}
 use Rattle.convenc.specs.Generators.{speech, outputs, held, delays, encodeRefusal, Encoded, InTurn}
-use Rattle.convenc.specs.Puncturing.{needed, punctureRefusal, depunctureRefusal}
 use Rattle.convenc.proofs.Delays.{Four, four-bits, four-after, held-after}
 use Rattle.trellis.proofs.Encoding.{encode-append}
-use Rattle.convenc.proofs.Refusing.{accepts, refuses-none, moving-none}
+use Rattle.convenc.proofs.Refusing.{accepts, refuses-none}
 
 -- bits, few enough and with room for their outputs, are accepted
 pub encode-accepts : (rate : ℕ) (d src : List ℕ) (dst : ℕ) → length src ≤ 4096 → rate * length src ≤ dst → Bits src → Bits d → encodeRefusal rate d src dst ≡ accepted
@@ -35,12 +34,6 @@ front-accepted rate n d src dst four some h e =
     encode-accepts rate d (take n src) dst (omega (arith, a .limit))
     (omega (arith, a .room, mul-le-mul-left rate h, ap (λ (m : ℕ). rate * m) l))
     (bits-only-bits n src (bits-only-yes n src (a .input))) (four-bits d four (a .delayed some) .bits)
-
-pub puncture-accepts : (mode n src dst : ℕ) → mode ≤ 6 → n ≤ 4096 → needed mode n ≤ src → n ≤ dst → punctureRefusal mode n src dst ≡ accepted
-puncture-accepts mode n src dst kind limit source target = sym (moving-none mode n src dst (needed mode n) n kind limit source target)
-
-pub depuncture-accepts : (mode n src dst : ℕ) → mode ≤ 6 → n ≤ 4096 → n ≤ src → needed mode n ≤ dst → depunctureRefusal mode n src dst ≡ accepted
-depuncture-accepts mode n src dst kind limit source target = sym (moving-none mode n src dst n (needed mode n) kind limit source target)
 
 -- what an encoder that accepts leaves
 pub encodes : (code : List (List ℕ)) (d src dst : List ℕ) (answer : Outcome) (d′ dst′ : List ℕ) → Encoded code d src dst answer d′ dst′

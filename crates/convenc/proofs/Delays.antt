@@ -2,15 +2,19 @@
 -- Assumes nothing.
 use mathlib.Core.Path.{_≡_, refl, sym, ap, subst, _∙_}
 use mathlib.Core.List.{List, [], _∷_, _++_, append-assoc, map, reverse, reverse-append}
-use mathlib.Core.Bool.{true}
+use mathlib.Core.Bool.{Bool, true, false}
 use Prim.Native.Nat.{ℕ, zero, suc, _+_, _-_, _*_, _/_, _≤_, _<_}
+use native.Mathlib.Numerals.{add-one}
 use native.Mathlib.Omega.{arith}
 use lib.ListN.{length, take, getD, length-map}
-use lib.Seq.{take-all, take-take}
+use lib.Dec.{ltb}
+use lib.Seq.{take-all, take-take, take-suc, take-length}
+use borrow.Author.Tests.{ltb-true, ltb-false}
 use Rattle.base.specs.Bits.{Bits, bitsOnly}
 use Rattle.base.proofs.BitLaws.{bits-at, bits-only-bits}
 use Rattle.trellis.specs.Nearest.{after}
-use Rattle.convenc.specs.Generators.{held, delays, newest}
+use Rattle.convenc.specs.Generators.{held, delays}
+use Rattle.convenc.specs.Tapping.{newest}
 
 -- four delays that are bits
 pub record Four (d : List ℕ) : Type 0 where
@@ -81,6 +85,23 @@ newest-more src i = rw (last, back 1, back 2, back 3)
 
     back : (k : ℕ) → i + 1 - (k + 1) ≡ i - k
     back k = omega arith
+
+-- the four entries before place i are the delays after the entries before it
+pub newest-after : (d src : List ℕ) (i : ℕ) → 4 ≤ i → i ≤ length src → newest src i ≡ delays d (take i src)
+newest-after d src zero p h = absurd (omega arith)
+newest-after d src (suc i) p h = go (newest-after d src i) (ltb i 4) refl
+  where
+    go : (4 ≤ i → i ≤ length src → newest src i ≡ delays d (take i src)) → (t : Bool) → ltb i 4 ≡ t → newest src (suc i) ≡ delays d (take (suc i) src)
+    go ih true e =
+        let first : 4 ≡ suc i = omega (arith, ltb-true i 4 e) in
+        subst (λ (n : ℕ). newest src n ≡ delays d (take n src)) first (newest-front d src (omega arith))
+    go ih false e =
+        ap (newest src) (sym (add-one i)) ∙ newest-more src i
+        ∙ ap (λ (l : List ℕ). delays l (getD src i 0 ∷ [])) (ih (ltb-false i 4 e) (omega arith))
+        ∙ delays-append d (take i src) (getD src i 0 ∷ []) ∙ ap (delays d) (sym (take-suc src i 0 (omega arith)))
+
+pub newest-last : (d src : List ℕ) → 4 ≤ length src → newest src (length src) ≡ delays d src
+newest-last d src h = newest-after d src (length src) h (omega arith) ∙ ap (delays d) (take-length src)
 
 -- ---- after an input
 pub four-after : (d w : List ℕ) → Four d → Bits w → Four (delays d w)

@@ -4,10 +4,4 @@ pub mod Taps
 pub mod Refusing
 pub mod Running
 pub mod Calls
-pub mod Modes
-pub mod Walking
-pub mod Steps
-pub mod Undone
-pub mod Bench
-pub mod Matching
 pub mod Lent

@@ -1,9 +1,9 @@
 -- What a refusal number says: the tests that led to it, and what holds where nothing is refused.
 -- Assumes nothing.
-use mathlib.Core.Path.{_≡_, refl, sym, subst}
+use mathlib.Core.Path.{_≡_, refl, subst}
 use mathlib.Core.List.{List, [], _∷_}
-use mathlib.Core.Bool.{Bool, true, false, not}
-use Prim.Native.Nat.{ℕ, zero, suc, _*_, _≤_, _<_}
+use mathlib.Core.Bool.{true, false, not}
+use Prim.Native.Nat.{ℕ, _*_, _≤_, _<_}
 use native.Mathlib.Nat.{mul-zero}
 use native.Mathlib.Omega.{arith}
 use lib.Dec.{ltb}
@@ -11,17 +11,13 @@ use lib.ListN.{length}
 use lib.Seq.{take-length}
 use borrow.Author.Tests.{ltb-false, not-false, lt-ltb, le-ltb}
 use Rattle.base.specs.Bits.{Bits, bitsOnly}
-use Rattle.base.specs.Refusal.{LIMIT, SHORT, ROOM, BIT, KIND, accepted, when, unless, outcome}
+use Rattle.base.specs.Refusal.{LIMIT, ROOM, BIT, accepted, when}
 use Rattle.base.proofs.BitLaws.{bits-only-bits}
+use Rattle.base.proofs.Refusals.{refused, passed}
 use Rattle.base.specs.declared.Outcome.the-variants.{Done, Refused}
 use Rattle.base.specs.Places.{written}
 use Rattle.trellis.specs.Nearest.{encode}
 use Rattle.convenc.specs.Generators.{encodeRefusal, outputs, held, delays, Encoded}
-
--- where a chain of tests refuses nothing, its first test failed and the later ones refuse nothing
-pub when-accepted : (t : Bool) (number later : ℕ) → when t (suc number) later ≡ accepted → (t ≡ false) × (later ≡ accepted)
-when-accepted true number later e = absurd (omega arith)
-when-accepted false number later e = (refl, e)
 
 -- ---- an encoder's refusal
 pub record Accepted (rate : ℕ) (d src : List ℕ) (dst : ℕ) : Type 0 where
@@ -33,10 +29,10 @@ pub record Accepted (rate : ℕ) (d src : List ℕ) (dst : ℕ) : Type 0 where
 pub accepts : (rate : ℕ) (d src : List ℕ) (dst : ℕ) → encodeRefusal rate d src dst ≡ accepted → Accepted rate d src dst
 accepts rate d [] dst e = record { limit = omega arith; room = omega (arith, mul-zero rate); input = tt; delayed = λ h. absurd (omega arith) }
 accepts rate d (b ∷ src) dst e =
-    let limit = when-accepted (ltb 4096 (length (b ∷ src))) 0 _ e in
-    let room = when-accepted (ltb dst (rate * length (b ∷ src))) 2 _ (limit .1) in
-    let input = when-accepted (not (bitsOnly (length (b ∷ src)) (b ∷ src))) 3 _ (room .1) in
-    let delayed = when-accepted (not (bitsOnly 4 d)) 3 _ (input .1) in
+    let limit = passed (ltb 4096 (length (b ∷ src))) 0 _ e in
+    let room = passed (ltb dst (rate * length (b ∷ src))) 2 _ (limit .1) in
+    let input = passed (not (bitsOnly (length (b ∷ src)) (b ∷ src))) 3 _ (room .1) in
+    let delayed = passed (not (bitsOnly 4 d)) 3 _ (input .1) in
     record {
       limit = ltb-false 4096 (length (b ∷ src)) (limit .0);
       room = ltb-false dst (rate * length (b ∷ src)) (room .0);
@@ -78,14 +74,6 @@ module _ (rate : ℕ) (d src : List ℕ) (dst : ℕ) (some : length src ≡ 0 �
       refuses-none input delayed = rw (fits, input, delayed)
 
 -- ---- an entry's promise, by whether it refuses
-pub refused : {A : Type 0} (number refusal : ℕ) (made kept : A) → number ≡ refusal → (number ≡ 0 → ⊥)
-    → (Refused number ≡ outcome refusal) × (kept ≡ unless refusal made kept)
-refused zero refusal made kept e some = absurd (some refl)
-refused (suc number) refusal made kept e some = (rw (sym e), rw (sym e))
-
-pub done : {A : Type 0} (refusal : ℕ) {left : A} (made kept : A) → refusal ≡ accepted → left ≡ made → (Done ≡ outcome refusal) × (left ≡ unless refusal made kept)
-done refusal made kept e p = (rw e, rw e p)
-
 pub encoded-refused : (code : List (List ℕ)) (d src dst : List ℕ) (number : ℕ) → number ≡ encodeRefusal (length code) d src (length dst) → (number ≡ 0 → ⊥)
     → Encoded code d src dst (Refused number) d dst
 encoded-refused code d src dst number e some =
@@ -96,46 +84,3 @@ encoded-refused code d src dst number e some =
 pub encoded-done : (code : List (List ℕ)) (d src dst : List ℕ) {d′ dst′ : List ℕ} → encodeRefusal (length code) d src (length dst) ≡ accepted
     → (d′ ≡ delays d src) × (dst′ ≡ written (encode (outputs code) (held d) src) dst) → Encoded code d src dst Done d′ dst′
 encoded-done code d src dst e p = record { answered = rw e; target = rw e (p .1); state = rw e (p .0) }
-
--- ---- puncturing's and depuncturing's refusal: n entries, of which a are needed of the source and b of the target
-abbrev pub moving : ℕ → ℕ → ℕ → ℕ → ℕ → ℕ → ℕ
-moving mode n src dst a b =
-    when (ltb 6 mode) KIND (when (ltb 4096 n) LIMIT (when (ltb src a) SHORT (when (ltb dst b) ROOM accepted)))
-
-pub record Moves (mode n src dst a b : ℕ) : Type 0 where
-  pub kind : mode ≤ 6
-  pub limit : n ≤ 4096
-  pub source : a ≤ src
-  pub target : b ≤ dst
-
-pub moves : (mode n src dst a b : ℕ) → moving mode n src dst a b ≡ accepted → Moves mode n src dst a b
-moves mode n src dst a b e =
-    let kind = when-accepted (ltb 6 mode) 7 _ e in
-    let limit = when-accepted (ltb 4096 n) 0 _ (kind .1) in
-    let source = when-accepted (ltb src a) 1 _ (limit .1) in
-    let target = when-accepted (ltb dst b) 2 _ (source .1) in
-    record {
-      kind = ltb-false 6 mode (kind .0);
-      limit = ltb-false 4096 n (limit .0);
-      source = ltb-false src a (source .0);
-      target = ltb-false dst b (target .0);
-    }
-
-module _ (mode n src dst a b : ℕ) where
-  pub moving-kind : 6 < mode → KIND ≡ moving mode n src dst a b
-  moving-kind kind = rw (lt-ltb 6 mode kind)
-
-  module _ (kind : mode ≤ 6) where
-    pub moving-limit : 4096 < n → LIMIT ≡ moving mode n src dst a b
-    moving-limit limit = rw (le-ltb 6 mode kind, lt-ltb 4096 n limit)
-
-    module _ (limit : n ≤ 4096) where
-      pub moving-short : src < a → SHORT ≡ moving mode n src dst a b
-      moving-short source = rw (le-ltb 6 mode kind, le-ltb 4096 n limit, lt-ltb src a source)
-
-      module _ (source : a ≤ src) where
-        pub moving-room : dst < b → ROOM ≡ moving mode n src dst a b
-        moving-room target = rw (le-ltb 6 mode kind, le-ltb 4096 n limit, le-ltb src a source, lt-ltb dst b target)
-
-        pub moving-none : b ≤ dst → accepted ≡ moving mode n src dst a b
-        moving-none target = rw (le-ltb 6 mode kind, le-ltb 4096 n limit, le-ltb src a source, le-ltb dst b target)

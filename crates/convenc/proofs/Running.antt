@@ -2,25 +2,29 @@
 -- Assumes nothing.
 use mathlib.Core.Path.{_≡_, refl, sym, ap, ap₂, subst, _∙_}
 use mathlib.Core.List.{List, [], _∷_, _++_, append-nil}
+use mathlib.Core.Bool.{Bool, true, false}
 use Prim.Native.Nat.{ℕ, suc, _+_, _*_, _≤_, _<_}
 use native.Mathlib.Nat.{mul-suc, mul-zero, mul-le-mul-left}
 use native.Mathlib.Numerals.{add-one}
 use native.Mathlib.Omega.{arith}
-use lib.ListN.{length, take, drop, getD, set, length-append}
-use lib.Seq.{sets, sets-eq, take-suc, take-all, take-at, drop-append-add, drop-drop, length-take-le}
-use lib.Dec.{T}
+use lib.ListN.{length, take, drop, getD, length-append}
+use lib.Seq.{sets, sets-eq, length-sets, take-suc, take-all, take-at, drop-append-add, drop-drop, length-take-le}
+use lib.Dec.{T, ltb}
+use borrow.Author.Tests.{ltb-true, ltb-false}
 use Rattle.base.specs.Bits.{Bits}
 use Rattle.base.specs.Places.{written}
 use Rattle.base.proofs.Lists.{written-length}
 use Rattle.base.proofs.BitLaws.{bits-at, bits-only-bits, bits-only-yes}
 use Rattle.base.specs.Refusal.{accepted}
+use Rattle.base.specs.declared.Outcome.the-variants.{Done}
 use Rattle.trellis.specs.Nearest.{encode, after}
-use Rattle.convenc.specs.Generators.{outputs, held, delays, newest, encodeRefusal}
+use Rattle.convenc.specs.Generators.{outputs, held, delays, encodeRefusal, Encoded}
+use Rattle.convenc.specs.Tapping.{taps, newest, GoesOn}
 use Rattle.trellis.proofs.Encoding.{encode-append}
 use Rattle.convenc.proofs.Encoding.{encoded-length, outputs-length}
-use Rattle.convenc.proofs.Delays.{Four, four, four-bits, delays-none, delays-append, four-after, held-after, newest-front, newest-more}
-use Rattle.convenc.proofs.Refusing.{accepts}
-use Rattle.convenc.proofs.Taps.{taps, taps-outputs, proper}
+use Rattle.convenc.proofs.Delays.{Four, four-bits, delays-none, delays-append, four-after, held-after, newest-front, newest-more}
+use Rattle.convenc.proofs.Refusing.{accepts, encoded-done}
+use Rattle.convenc.proofs.Taps.{taps-outputs, proper}
 
 -- what is written goes on where it ended
 pub written-on : (new old more : List ℕ) (at : ℕ) → at ≡ length new → length new + length more ≤ length old
@@ -31,18 +35,6 @@ written-on new old more at e h =
     ∙ ap₂ (λ (x y : List ℕ). x ++ more ++ y) (take-at new (drop (length new) old) at (sym e))
     (ap (λ (n : ℕ). drop (n + length more) (written new old)) e ∙ drop-append-add new (drop (length new) old) (length more)
     ∙ drop-drop (length more) (length new) old ∙ ap (λ (n : ℕ). drop n old) (sym (length-append new more)))
-
--- straight-line stores, the later at the next places
-pub stores-three : (l : List ℕ) (at x y z : ℕ) → set (set (set l at x) (at + 1) y) (at + 2) z ≡ sets l at (x ∷ y ∷ z ∷ [])
-stores-three l at x y z =
-    let second : at + 1 ≡ suc at = omega arith in
-    let third : at + 2 ≡ suc (suc at) = omega arith in
-    ap₂ (λ (m n : ℕ). set (set (set l at x) m y) n z) second third
-
-pub stores-four : (l : List ℕ) (at w x y z : ℕ) → set (set (set (set l at w) (at + 1) x) (at + 2) y) (at + 3) z ≡ sets l at (w ∷ x ∷ y ∷ z ∷ [])
-stores-four l at w x y z =
-    let e : at + 3 ≡ suc (suc (suc at)) = omega arith in
-    ap₂ (λ (m : List ℕ) (n : ℕ). set m n z) (stores-three l at w x y) e
 
 -- after i bits of the input: the next place, the delays and the target
 pub record Running (code : List (List ℕ)) (d₀ src dst₀ : List ℕ) (i at : ℕ) (d dst : List ℕ) : Type 0 where
@@ -92,17 +84,15 @@ module _ {code : List (List ℕ)} {d₀ src dst₀ : List ℕ} {i at : ℕ} {d d
       running-length,
     )
 
-    pub running-more : T (proper code) → i < length src → {d′ dst′ : List ℕ} → d′ ≡ delays d (getD src i 0 ∷ [])
-        → dst′ ≡ sets dst at (taps code (getD src i 0) (getD d 0 0 ∷ getD d 1 0 ∷ getD d 2 0 ∷ getD d 3 0 ∷ []))
-        → Running code d₀ src dst₀ (i + 1) (at + length code) d′ dst′
-    running-more t h {d′} {dst′} next stored = record {
+    pub running-more : {rate : ℕ} → rate ≡ length code → T (proper code) → i < length src → {d′ dst′ : List ℕ} → d′ ≡ delays d (getD src i 0 ∷ [])
+        → dst′ ≡ sets dst at (taps code (getD src i 0) d) → Running code d₀ src dst₀ (i + 1) (at + rate) d′ dst′
+    running-more e t h {d′} {dst′} next stored = record {
       four = run .four;
       fit = omega arith;
-      place = omega (arith, run .place, mul-suc (length code) i, ap (λ (n : ℕ). length code * n) (add-one i));
+      place = omega (arith, e, run .place, mul-suc (length code) i, ap (λ (n : ℕ). length code * n) (add-one i));
       state = next ∙ ap (λ (l : List ℕ). delays l (b ∷ [])) (run .state) ∙ delays-append d₀ (take i src) (b ∷ []) ∙ ap (delays d₀) (sym longer);
       target =
-          stored ∙ ap (λ (l : List ℕ). sets dst at (taps code b l)) (sym (four d (here .len)))
-          ∙ ap₂ (λ (l o : List ℕ). sets l at o) (run .target) (taps-outputs code t b d (bits-at src bits i) here)
+          stored ∙ ap₂ (λ (l o : List ℕ). sets l at o) (run .target) (taps-outputs code t b d (bits-at src bits i) here)
           ∙ written-on (encode (outputs code) (held d₀) (take i src)) dst₀ (outputs code (16 * b + held d)) at (run .place ∙ sym made)
           (omega (arith, made, outputs-length code (16 * b + held d), running-room h, running-length, run .place))
           ∙ ap (λ (l : List ℕ). written l dst₀) (sym joined);
@@ -133,24 +123,63 @@ module _ {code : List (List ℕ)} {d₀ src dst₀ : List ℕ} {i at : ℕ} {d d
             (append-nil (outputs code (16 * b + after (held d₀) (take i src)))
             ∙ ap (λ (s : ℕ). outputs code (16 * b + s)) (sym (ap held (run .state) ∙ held-after d₀ (take i src) first before)))
 
--- ---- delays that are read of the input
--- before bit i, over the target dst that the loop began with: what it leaves from any delays and any target that led there
+-- ---- delays that are read from the input
+-- before bit i, over the target dst that the loop began with
 pub record Reading (code : List (List ℕ)) (src dst : List ℕ) (i : ℕ) (dst′ : List ℕ) : Type 0 where
   pub past : 4 ≤ i
-  pub runs : (d₀ dst₀ : List ℕ) → length d₀ ≡ 4 → encodeRefusal (length code) d₀ src (length dst₀) ≡ accepted
+  pub kept : length dst′ ≡ length dst
+  -- an input with no fifth bit leaves the target as it was
+  pub idle : length src ≤ 4 → dst′ ≡ dst
+  -- what the loop leaves, from any delays and any target that led there
+  pub runs : 4 ≤ length src → (d₀ dst₀ : List ℕ) → length d₀ ≡ 4 → encodeRefusal (length code) d₀ src (length dst₀) ≡ accepted
       → dst ≡ written (encode (outputs code) (held d₀) (take 4 src)) dst₀ → Running code d₀ src dst₀ i (length code * i) (newest src i) dst′
 
-pub reading-none : (code : List (List ℕ)) (src dst : List ℕ) → 4 ≤ length src → Reading code src dst 4 dst
-reading-none code src dst h = record {
+pub reading-none : (code : List (List ℕ)) (src dst : List ℕ) → Reading code src dst 4 dst
+reading-none code src dst = record {
   past = omega arith;
-  runs = λ d₀ dst₀ l accept e. record { four = l; fit = h; place = refl; state = newest-front d₀ src h; target = e };
+  kept = refl;
+  idle = λ h. refl;
+  runs = λ h d₀ dst₀ l accept e. record { four = l; fit = h; place = refl; state = newest-front d₀ src h; target = e };
 }
 
-pub reading-more : {code : List (List ℕ)} {src dst : List ℕ} {i : ℕ} {dst′ dst″ : List ℕ} → Reading code src dst i dst′ → T (proper code) → i < length src
-    → dst″ ≡ sets dst′ (length code * i) (taps code (getD src i 0) (newest src i)) → Reading code src dst (i + 1) dst″
-reading-more {src = src} {i = i} r t h stored = record {
-  past = omega (arith, r .past);
-  runs = λ d₀ dst₀ l accept e.
-      let next = running-more (r .runs d₀ dst₀ l accept e) accept t h (newest-more src i) stored in
-      record { four = l; fit = next .fit; place = refl; state = next .state; target = next .target };
-}
+module _ {code : List (List ℕ)} {src dst : List ℕ} {i : ℕ} {dst′ : List ℕ} (r : Reading code src dst i dst′) where
+  -- the outputs of bit i have room
+  pub reading-room : length code * length src ≤ length dst → i < length src → length code * i + length code ≤ length dst′
+  reading-room room h =
+      omega (arith, room, r .kept, mul-suc (length code) i, mul-le-mul-left {m = suc i} {n = length src} (length code) h)
+
+  pub reading-more : T (proper code) → i < length src → {dst″ : List ℕ} → dst″ ≡ sets dst′ (length code * i) (taps code (getD src i 0) (newest src i))
+      → Reading code src dst (i + 1) dst″
+  reading-more t h stored = record {
+    past = omega (arith, r .past);
+    kept = ap length stored ∙ length-sets dst′ (length code * i) (taps code (getD src i 0) (newest src i)) ∙ r .kept;
+    idle = λ short. absurd (omega (arith, r .past));
+    runs = λ k d₀ dst₀ l accept e.
+        let next = running-more (r .runs k d₀ dst₀ l accept e) accept refl t h (newest-more src i) stored in
+        record { four = l; fit = next .fit; place = refl; state = next .state; target = next .target };
+  }
+
+  pub reading-done : length src ≤ i → GoesOn code src dst dst′
+  reading-done h d old l accept e = go (ltb (length src) 4) refl
+    where
+      go : (t : Bool) → ltb (length src) 4 ≡ t → dst′ ≡ written (encode (outputs code) (held d) src) old
+      go true t =
+          let short = ltb-true (length src) 4 t in
+          r .idle (omega arith) ∙ e ∙ ap (λ (w : List ℕ). written (encode (outputs code) (held d) w) old) (take-all 4 src (omega arith))
+      go false t = running-done (r .runs (ltb-false (length src) 4 t) d old l accept e) h .1
+
+-- ---- what an entry leaves
+-- an input with no fifth bit is its own front
+pub front-whole : (code : List (List ℕ)) (d src old : List ℕ) {dst : List ℕ} → length src < 4 → dst ≡ written (encode (outputs code) (held d) src) old
+    → dst ≡ written (encode (outputs code) (held d) (take 4 src)) old
+front-whole code d src old h e = e ∙ ap (λ (w : List ℕ). written (encode (outputs code) (held d) w) old) (sym (take-all 4 src (omega arith)))
+
+module _ (code : List (List ℕ)) (d src old : List ℕ) {number : ℕ} (owed : number ≡ encodeRefusal (length code) d src (length old)) (none : number ≡ 0) where
+  pub entry-room : length code * length src ≤ length old
+  entry-room = accepts (length code) d src (length old) (sym owed ∙ none) .room
+
+  pub entry-done : {d′ dst dst′ : List ℕ} → length d ≡ 4 → (d′ ≡ delays d src) × (dst ≡ written (encode (outputs code) (held d) (take 4 src)) old)
+      → GoesOn code src dst dst′ → Encoded code d src old Done d′ dst′
+  entry-done l first on =
+      let accept = sym owed ∙ none in
+      encoded-done code d src old accept (first .0, on d old l accept (first .1))

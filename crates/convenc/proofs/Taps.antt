@@ -5,22 +5,20 @@ use mathlib.Core.List.{List, [], _∷_}
 use mathlib.Core.Bool.{Bool, true, false}
 use Prim.Native.Nat.{ℕ, zero, suc, _+_, _*_, _/_, _%_, _<_}
 use native.Mathlib.Omega.{arith}
-use lib.ListN.{length, getD}
+use lib.ListN.{length, getD, set}
 use lib.Dec.{T, eqb, eqb→eq}
 use lib.Bits.{bitXor}
-use lib.Seq.{take-length}
+use lib.Seq.{sets, take-length}
 use Rattle.base.specs.Bits.{Bits, both, bitsOnly}
 use Rattle.base.specs.Digits.{digits}
 use Rattle.base.proofs.Xor.{xor-bit}
 use Rattle.base.proofs.BitLaws.{bits-at, bits-only-bits}
 use Rattle.base.proofs.Table.{both-left, both-right}
 use Rattle.convenc.specs.Generators.{dot, tapped, outputs, held}
+use Rattle.convenc.specs.Tapping.{generators, xors, picks, taps}
+use Rattle.convenc.specs.declared.Code.{Code}
+use Rattle.convenc.specs.declared.Code.the-variants as codes
 use Rattle.convenc.proofs.Delays.{Four, four}
-
--- exclusive or of x and a list, from the left
-abbrev pub xors : ℕ → List ℕ → ℕ
-xors x [] = x
-xors x (y ∷ ys) = xors (bitXor x y) ys
 
 abbrev sum : List ℕ → ℕ
 sum [] = 0
@@ -54,19 +52,6 @@ window b p q r s hb hp hq hr hs = cc (first, second, third, fourth, fifth)
 
     fifth : (16 * b + held (p ∷ q ∷ r ∷ s ∷ [])) / 1 % 2 ≡ s
     fifth = omega arith
-
--- the delays where the coefficient is 1
-abbrev picks : List ℕ → List ℕ → List ℕ
-picks [] d = []
-picks (c ∷ cs) [] = []
-picks (zero ∷ cs) (x ∷ d) = picks cs d
-picks (suc c ∷ cs) (x ∷ d) = x ∷ picks cs d
-
--- what the code makes of a bit and the delays for each generator, which takes the bit itself
-abbrev pub taps : List (List ℕ) → ℕ → List ℕ → List ℕ
-taps [] b d = []
-taps ([] ∷ code) b d = 0 ∷ taps code b d
-taps ((c ∷ cs) ∷ code) b d = xors b (picks cs d) ∷ taps code b d
 
 -- each generator takes the bit itself, and its coefficients are bits
 abbrev pub proper : List (List ℕ) → Bool
@@ -113,3 +98,27 @@ taps-outputs ((c ∷ cs) ∷ code) t b d h f = ap₂ (λ (x : ℕ) (l : List ℕ
         xors-sum b (picks cs d) h (picks-bits cs d (f .bits))
         ∙ ap (λ (x : ℕ). x % 2) (ap₂ (λ (x y : ℕ). x + y) (omega (arith, ap (λ (x : ℕ). x * b) leads)) (picks-dot cs d bits))
         ∙ ap (λ (l : List ℕ). dot (c ∷ cs) l % 2) (sym apart) ∙ sym e
+
+-- ---- straight-line stores, the later at the next places
+pub stores-three : (l : List ℕ) (at x y z : ℕ) → set (set (set l at x) (at + 1) y) (at + 2) z ≡ sets l at (x ∷ y ∷ z ∷ [])
+stores-three l at x y z =
+    let second : at + 1 ≡ suc at = omega arith in
+    let third : at + 2 ≡ suc (suc at) = omega arith in
+    ap₂ (λ (m n : ℕ). set (set (set l at x) m y) n z) second third
+
+pub stores-four : (l : List ℕ) (at w x y z : ℕ) → set (set (set (set l at w) (at + 1) x) (at + 2) y) (at + 3) z ≡ sets l at (w ∷ x ∷ y ∷ z ∷ [])
+stores-four l at w x y z =
+    let e : at + 3 ≡ suc (suc (suc at)) = omega arith in
+    ap₂ (λ (m : List ℕ) (n : ℕ). set m n z) (stores-three l at w x y) e
+
+-- ---- each code
+pub codes-proper : (code : Code) → T (proper (generators code))
+codes-proper codes.Control = tt
+codes-proper codes.ControlThird = tt
+codes-proper codes.Speech = tt
+
+-- what the stores of one code leave, over the array of the delays
+pub stored-by : (code kind : Code) (d dst : List ℕ) (at b : ℕ) {dst′ : List ℕ} → code ≡ kind → length d ≡ 4
+    → dst′ ≡ sets dst at (taps (generators kind) b (getD d 0 0 ∷ getD d 1 0 ∷ getD d 2 0 ∷ getD d 3 0 ∷ [])) → dst′ ≡ sets dst at (taps (generators code) b d)
+stored-by code kind d dst at b e l stored =
+    stored ∙ ap₂ (λ (k : Code) (w : List ℕ). sets dst at (taps (generators k) b w)) (sym e) (sym (four d l))

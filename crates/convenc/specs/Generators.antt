@@ -3,9 +3,9 @@
 use mathlib.Core.Path.{_≡_}
 use mathlib.Core.List.{List, [], _∷_, _++_, map, reverse}
 use mathlib.Core.Bool.{not}
-use Prim.Native.Nat.{ℕ, _+_, _-_, _*_, _%_}
+use Prim.Native.Nat.{ℕ, _+_, _*_, _%_}
 use lib.Dec.{ltb}
-use lib.ListN.{length, take, getD}
+use lib.ListN.{length, take}
 use Rattle.base.specs.declared.Outcome.{Outcome}
 use Rattle.base.specs.Refusal.{LIMIT, ROOM, BIT, accepted, when, unless, outcome}
 use Rattle.base.specs.Places.{written}
@@ -24,7 +24,7 @@ control =
 
 -- the rate 1/3 form keeps the first three
 abbrev pub controlThird : List (List ℕ)
-controlThird = (1 ∷ 1 ∷ 0 ∷ 0 ∷ 1 ∷ []) ∷ (1 ∷ 0 ∷ 1 ∷ 1 ∷ 1 ∷ []) ∷ (1 ∷ 1 ∷ 1 ∷ 0 ∷ 1 ∷ []) ∷ []
+controlThird = take 3 control
 
 abbrev pub speech : List (List ℕ)
 speech = (1 ∷ 1 ∷ 1 ∷ 1 ∷ 1 ∷ []) ∷ (1 ∷ 1 ∷ 0 ∷ 1 ∷ 1 ∷ []) ∷ (1 ∷ 0 ∷ 1 ∷ 0 ∷ 1 ∷ []) ∷ []
@@ -57,10 +57,6 @@ encodeRefusal rate delayed (b ∷ src) dst =
 -- the four delays after an input: its last bits, the newest first, and what the delays held before it
 abbrev pub delays : List ℕ → List ℕ → List ℕ
 delays delayed src = take 4 (reverse src ++ delayed)
-
--- the four entries before place i, the newest first
-abbrev pub newest : List ℕ → ℕ → List ℕ
-newest src i = getD src (i - 1) 0 ∷ getD src (i - 2) 0 ∷ getD src (i - 3) 0 ∷ getD src (i - 4) 0 ∷ []
 
 -- what an encoder of this code answers, hands back and leaves in its target
 pub record Encoded (code : List (List ℕ)) (delayed src dst : List ℕ) (answer : Outcome) (delayed′ dst′ : List ℕ) : Type 0 where

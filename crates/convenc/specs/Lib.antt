@@ -1,5 +1,2 @@
 pub mod Generators
-pub mod Puncturing
-pub mod Walk
-pub mod Comparing
-pub mod Gathering
+pub mod Tapping

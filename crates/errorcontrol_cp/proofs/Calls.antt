@@ -17,9 +17,10 @@ use Rattle.base.proofs.Moves.{gather-length, scatter-length, scatter-over}
 use Rattle.trellis.specs.Nearest.{encode}
 use Rattle.trellis.proofs.Words.{zeros-bits}
 use Rattle.convenc.specs.Generators.{control, outputs, held, encodeRefusal}
-use Rattle.convenc.specs.Puncturing.{keptPlace, needed, punctureRefusal, depunctureRefusal, punctured, depunctured}
+use Rattle.puncturing.specs.Puncturing.{keptPlace, needed, punctureRefusal, depunctureRefusal, punctured, depunctured}
 use Rattle.convenc.proofs.Encoding.{encoded-length}
-use Rattle.convenc.proofs.Calls.{encode-accepts, puncture-accepts, depuncture-accepts}
+use Rattle.convenc.proofs.Calls.{encode-accepts}
+use Rattle.puncturing.proofs.Refusing.{puncture-accepts, depuncture-accepts}
 use Rattle.interleaver.specs.Interleaving.{place, shared, blockRefusal, interleaved, deinterleaved}
 use Rattle.interleaver.proofs.Block.{block-apart, block-within, block-onto}
 use Rattle.scrambler.specs.Scrambling.{sendRefusal, scrambled, descrambled}

@@ -18,7 +18,7 @@ use Rattle.trellis.specs.Nearest.{encode}
 use Rattle.trellis.proofs.Winners.{nearest-length}
 use Rattle.crc16.specs.Crc.{register, OK}
 use Rattle.convenc.specs.Generators.{control, outputs}
-use Rattle.convenc.specs.Puncturing.{needed, punctured, depunctured}
+use Rattle.puncturing.specs.Puncturing.{needed, punctured, depunctured}
 use Rattle.convenc.proofs.Encoding.{encoded-bits, encoded-length}
 use Rattle.interleaver.specs.Interleaving.{shared, interleaved, deinterleaved}
 use Rattle.scrambler.specs.Scrambling.{scrambled, descrambled}

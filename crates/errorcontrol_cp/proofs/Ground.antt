@@ -6,9 +6,9 @@ use Prim.Native.Nat.{ℕ, _*_, _<_}
 use native.Mathlib.Omega.{arith}
 use Rattle.base.specs.Places.{Apart, Within}
 use Rattle.base.proofs.Moves.{Onto}
-use Rattle.convenc.specs.Puncturing.{keptPlace}
-use Rattle.convenc.proofs.Modes as modes
-use Rattle.convenc.proofs.Steps.{kept-steps, kept-first-of}
+use Rattle.puncturing.specs.Puncturing.{keptPlace}
+use Rattle.puncturing.proofs.Modes as modes
+use Rattle.puncturing.proofs.Steps.{kept-steps, kept-first-of}
 use Rattle.interleaver.specs.Interleaving.{place}
 use Rattle.interleaver.proofs.Block.{block-apart, block-within, block-onto}
 use Rattle.errorcontrol_cp.specs.Kinds.{isKind, wordBits, airSymbols, interleaverStep}

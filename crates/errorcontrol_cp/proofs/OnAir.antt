@@ -17,7 +17,7 @@ use Rattle.base.proofs.Moves.{Onto, scatter-length, scatter-hit, scatter-miss, 
 use Rattle.trellis.specs.Nearest.{encode}
 use Rattle.trellis.proofs.Winners.{nearest-length, nearest-bits}
 use Rattle.convenc.specs.Generators.{control, outputs}
-use Rattle.convenc.specs.Puncturing.{keptPlace}
+use Rattle.puncturing.specs.Puncturing.{keptPlace}
 use Rattle.convenc.proofs.Encoding.{encoded-bits}
 use Rattle.interleaver.specs.Interleaving.{place, interleaved, deinterleaved}
 use Rattle.scrambler.specs.Scrambling.{output, descrambled, descrambledSymbol}

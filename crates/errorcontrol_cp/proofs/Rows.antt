@@ -7,7 +7,7 @@ use native.Mathlib.Omega.{arith}
 use lib.Dec.{ltb}
 use borrow.Author.Tests.{ltb-true, lt-ltb, le-ltb}
 use Rattle.base.specs.Bits.{both}
-use Rattle.convenc.specs.Puncturing.{position, needed}
+use Rattle.puncturing.specs.Puncturing.{position, needed}
 use Rattle.interleaver.specs.Interleaving.{shared}
 use Rattle.errorcontrol_cp.specs.Kinds.{isKind, dataBits, wordBits, airSymbols, interleaverStep}
 use Rattle.errorcontrol_cp.specs.Sending.{MODE}

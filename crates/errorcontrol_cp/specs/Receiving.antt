@@ -13,7 +13,7 @@ use Rattle.base.specs.Bits.{ERASED}
 use Rattle.base.specs.Places.{written}
 use Rattle.crc16.specs.Crc.{register, OK}
 use Rattle.convenc.specs.Generators.{control}
-use Rattle.convenc.specs.Puncturing.{depunctured}
+use Rattle.puncturing.specs.Puncturing.{depunctured}
 use Rattle.interleaver.specs.Interleaving.{deinterleaved}
 use Rattle.scrambler.specs.Scrambling.{descrambled}
 use Rattle.viterbi.specs.Decoding.{decoded, disagreements, cleared}

@@ -13,7 +13,7 @@ use Rattle.base.specs.Places.{written}
 use Rattle.trellis.specs.Nearest.{encode}
 use Rattle.crc16.specs.Crc.{check}
 use Rattle.convenc.specs.Generators.{control, outputs}
-use Rattle.convenc.specs.Puncturing.{punctured}
+use Rattle.puncturing.specs.Puncturing.{punctured}
 use Rattle.interleaver.specs.Interleaving.{interleaved}
 use Rattle.scrambler.specs.Scrambling.{scrambled}
 use Rattle.errorcontrol_cp.specs.Kinds.{isKind, dataBits, airSymbols, interleaverStep}

@@ -13,7 +13,7 @@ ghost use Rattle.base.specs.Places.{written};
 ghost use Rattle.trellis.specs.Nearest.{encode};
 ghost use Rattle.crc16.specs.Crc.{register, OK};
 ghost use Rattle.convenc.specs.Generators.{control, outputs};
-ghost use Rattle.convenc.specs.Puncturing.{needed, punctured, depunctured};
+ghost use Rattle.puncturing.specs.Puncturing.{needed, punctured, depunctured};
 ghost use Rattle.interleaver.specs.Interleaving.{shared, interleaved, deinterleaved};
 ghost use Rattle.scrambler.specs.Scrambling.{scrambled, descrambled};
 ghost use Rattle.viterbi.specs.Decoding.{decoded, disagreements, cleared};
@@ -110,7 +110,7 @@ fn put_on_air(k: usize, a: usize, start: u32, mother: &[u8], air: &mut [u8])
     ensures { λ _. ⌜ now (air .exit) ≡ scrambled start (interleaved k a (punctured MODE k (now (mother .entry))) (replicate k 0)) ⌝ }
 {
     let mut coded = [0u8; 432];
-    convenc::get_punctured_rate(MODE, mother, k, &mut coded[..k]);
+    puncturing::get_punctured_rate(MODE, mother, k, &mut coded[..k]);
     interleaver::block_interleave(k, a, &coded[..k], air);
     scrambler::tetra_scramb_bits(start, air);
 }
@@ -189,7 +189,7 @@ fn recover_mother(k: usize, a: usize, start: u32, air: &[u8], mother: &mut [u8])
 {
     let mut coded = [0u8; 432];
     recover_coded(k, a, start, air, &mut coded[..k]);
-    convenc::tetra_rcpc_depunct(MODE, &coded[..k], k, mother);
+    puncturing::tetra_rcpc_depunct(MODE, &coded[..k], k, mother);
 }
 
 // Whether the check agrees, over the first count entries and the 16 after them.

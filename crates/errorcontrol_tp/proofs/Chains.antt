@@ -16,8 +16,9 @@ use Rattle.base.proofs.Moves.{gather-length, scatter-length, scatter-over}
 use Rattle.base.proofs.Lists.{written-whole}
 use Rattle.trellis.specs.Nearest.{encode, after}
 use Rattle.convenc.specs.Generators.{outputs, speech, encodeRefusal, InTurn}
-use Rattle.convenc.specs.Puncturing.{punctured, depunctured, punctureRefusal, depunctureRefusal, keptPlace, needed, position}
-use Rattle.convenc.proofs.Calls.{encode-accepts, puncture-accepts, depuncture-accepts}
+use Rattle.puncturing.specs.Puncturing.{punctured, depunctured, punctureRefusal, depunctureRefusal, keptPlace, needed, position}
+use Rattle.convenc.proofs.Calls.{encode-accepts}
+use Rattle.puncturing.proofs.Refusing.{puncture-accepts, depuncture-accepts}
 use Rattle.convenc.proofs.Encoding.{encoded-length}
 use Rattle.trellis.proofs.Encoding.{encode-append}
 use Rattle.trellis.proofs.Words.{bits-drop, zeros-bits}

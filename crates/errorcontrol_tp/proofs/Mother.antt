@@ -19,10 +19,10 @@ use Rattle.air.proofs.Moved.{gather-bits}
 use Rattle.air.proofs.Route.{Missed}
 use Rattle.air.proofs.Pieces.{joined, joined-first, joined-rest, joined-apart, joined-within, joined-at, joined-missed}
 use Rattle.convenc.specs.Generators.{outputs, speech}
-use Rattle.convenc.specs.Puncturing.{punctured, depunctured, keptPlace}
+use Rattle.puncturing.specs.Puncturing.{punctured, depunctured, keptPlace}
 use Rattle.convenc.proofs.Encoding.{encoded-bits, encoded-length}
-use Rattle.convenc.proofs.Modes.{kept-apart}
-use Rattle.convenc.proofs.Steps.{kept-first-of, kept-steps}
+use Rattle.puncturing.proofs.Modes.{kept-apart}
+use Rattle.puncturing.proofs.Steps.{kept-first-of, kept-steps}
 use Rattle.errorcontrol_tp.specs.Speech.{firstMode, secondMode, codedOf, motherOf}
 
 pub bits-take : (n : ℕ) (w : List ℕ) → Bits w → Bits (take n w)

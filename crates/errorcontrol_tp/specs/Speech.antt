@@ -14,7 +14,7 @@ use Rattle.base.specs.Places.{written}
 use Rattle.base.specs.Bits.{both, bitsOnly, ERASED}
 use Rattle.trellis.specs.Nearest.{encode}
 use Rattle.convenc.specs.Generators.{outputs, speech}
-use Rattle.convenc.specs.Puncturing.{punctured, depunctured}
+use Rattle.puncturing.specs.Puncturing.{punctured, depunctured}
 use Rattle.interleaver.specs.Interleaving.{matrixInterleaved, matrixDeinterleaved}
 use Rattle.scrambler.specs.Scrambling.{scrambled, descrambled}
 use Rattle.tch_reorder.specs.Order.{channelOf, codecOf}

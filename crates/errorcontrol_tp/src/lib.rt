@@ -13,7 +13,7 @@ ghost use Rattle.tch_reorder.specs.Order.{channelOf, codecOf};
 ghost use Rattle.speech_crc.specs.Check.{speechCheck};
 ghost use Rattle.trellis.specs.Nearest.{encode};
 ghost use Rattle.convenc.specs.Generators.{outputs, speech};
-ghost use Rattle.convenc.specs.Puncturing.{punctured};
+ghost use Rattle.puncturing.specs.Puncturing.{punctured};
 ghost use Rattle.errorcontrol_tp.specs.Speech.{sendRefusal, receiveRefusal, onAir, slot, secondHalf, blockOf, motherOf, readBit, sameBits, codecBits, isGood, countsOf, supplied, Sends, Receives};
 use base::BIT;
 use base::Counts;
@@ -101,8 +101,8 @@ fn block_bits(channel: [u8; 274], first: [u8; 336], second: [u8; 216]) -> [u8; 4
 {
     let mut block = [0u8; 432];
     copy(&channel[0..102], &mut block[0..102]);
-    convenc::get_punctured_rate(4, &first, 168, &mut block[102..270]);
-    convenc::get_punctured_rate(5, &second, 162, &mut block[270..432]);
+    puncturing::get_punctured_rate(4, &first, 168, &mut block[102..270]);
+    puncturing::get_punctured_rate(5, &second, 162, &mut block[270..432]);
     block
 }
 
@@ -208,8 +208,8 @@ fn mother_symbols(block: [u8; 432]) -> [u8; 552]
     ensures { λ r. ⌜ r ≡ motherOf block ⌝ }
 {
     let mut mother = [0xffu8; 552];
-    convenc::tetra_rcpc_depunct(4, &block[102..270], 168, &mut mother[0..336]);
-    convenc::tetra_rcpc_depunct(5, &block[270..432], 162, &mut mother[336..552]);
+    puncturing::tetra_rcpc_depunct(4, &block[102..270], 168, &mut mother[0..336]);
+    puncturing::tetra_rcpc_depunct(5, &block[270..432], 162, &mut mother[336..552]);
     mother
 }
 

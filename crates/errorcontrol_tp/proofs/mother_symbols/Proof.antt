@@ -7,7 +7,7 @@ use Rattle.errorcontrol_tp.proofs.mother_symbols.Statement.{statement}
 use Rattle.errorcontrol_tp.proofs.mother_symbols.Tie as tie
 use Rattle.errorcontrol_tp.proofs.mother_symbols.Reads as reads
 use Rattle.errorcontrol_tp.proofs.mother_symbols.Lts as lts
-use Rattle.convenc.proofs.tetra_rcpc_depunct.Reads as tetra-rcpc-depunct-reads
+use Rattle.puncturing.proofs.tetra_rcpc_depunct.Reads as tetra-rcpc-depunct-reads
 
 -- src/lib.rt:202:36
 sub-tetra-rcpc-depunct : tie.Need-sub-tetra-rcpc-depunct

@@ -1,0 +1,6 @@
+pub mod Refusing
+pub mod Modes
+pub mod Walking
+pub mod Carrying
+pub mod Steps
+pub mod Undone

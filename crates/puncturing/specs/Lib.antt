@@ -1,0 +1,2 @@
+pub mod Puncturing
+pub mod Walk
