@@ -51,17 +51,27 @@ same-length c = search needs
 
 returns-2 : tie.Need-returns-2
 returns-2 c =
-    let f = found-item _ _ (c .before .before .before .before .before .before .before .take .ensures) (c .before .before .before .before .before .item .given .1) in
-    whole-turned _ _ _ (c .before .before .before .before .before .before .before .before .before .before .before .before .before .pre) (sym (c .before .before .before .before .before .before .before .before .before .before .goes-on .ensures) ∙ not-false _ (c .before .before .before .before .before .before .before .before .before .if1 .left)) f
-    (found-at _ _ (c .before .before .before .before .before .before .before .take .ensures) (c .before .before .before .before .before .item .given .1)) (c .before .before .record-line .ensures .0) (c .before .before .record-line .ensures .1) (omega (arith, going-room _ _ _ _ (sym (c .before .before .before .before .before .before .before .before .before .before .goes-on .ensures) ∙ not-false _ (c .before .before .before .before .before .before .before .before .before .if1 .left)) .1, c .before .before .record-line .ensures .1))
+    let put = c .before .before in
+    let it = put .before .before .before in
+    let found = it .before .before in
+    let went = found .before .before in
+    let on = sym (went .before .goes-on .ensures) ∙ not-false _ (went .if1 .left) in
+    whole-turned _ _ _ (went .before .before .before .before .pre) on (found-item _ _ (found .take .ensures) (it .item .given .1))
+    (found-at _ _ (found .take .ensures) (it .item .given .1)) (put .record-line .ensures .0) (put .record-line .ensures .1)
+    (omega (arith, going-room _ _ _ _ on .1, put .record-line .ensures .1))
 
 same-length-2 : tie.Need-same-length-2
 same-length-2 c = search needs
 
 returns-3 : tie.Need-returns-3
 returns-3 c =
-    let f = found-item _ _ (c .before .before .before .before .before .before .before .take .ensures) (c .before .before .before .before .before .item2 .given .1) in
-    unknown-turned _ _ _ (c .before .before .before .before .before .before .before .before .before .before .before .before .before .pre) (sym (c .before .before .before .before .before .before .before .before .before .before .goes-on .ensures) ∙ not-false _ (c .before .before .before .before .before .before .before .before .before .if1 .left)) f (c .before .before .put-unknown .ensures .0) (c .before .before .put-unknown .ensures .1) (omega (arith, going-room _ _ _ _ (sym (c .before .before .before .before .before .before .before .before .before .before .goes-on .ensures) ∙ not-false _ (c .before .before .before .before .before .before .before .before .before .if1 .left)) .1, c .before .before .put-unknown .ensures .1))
+    let put = c .before .before in
+    let it = put .before .before .before in
+    let found = it .before .before in
+    let went = found .before .before in
+    let on = sym (went .before .goes-on .ensures) ∙ not-false _ (went .if1 .left) in
+    unknown-turned _ _ _ (went .before .before .before .before .pre) on (found-item _ _ (found .take .ensures) (it .item2 .given .1))
+    (put .put-unknown .ensures .0) (put .put-unknown .ensures .1) (omega (arith, going-room _ _ _ _ on .1, put .put-unknown .ensures .1))
 
 returns-4 : tie.Need-returns-4
 returns-4 c = kept-turned _ _ _ (c .before .before .before .before .before .before .before .before .pre) (found-item _ _ (c .before .before .take .ensures) (c .enum-told .given .1)) refl

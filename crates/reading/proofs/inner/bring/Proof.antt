@@ -36,7 +36,8 @@ returns : tie.Need-returns
 returns c =
     let closed = c .before .before in
     let taken = closed .before .before .before .before .before .before .before .before in
-    let fits : taken .advance .result .written ≤ length (taken .advance .last .1 .1 .1 .0) = omega (arith, taken .advance .ensures .written-in, taken .advance .kept .1 .1 .1 .0) in
+    let fits : taken .advance .result .written ≤ length (taken .advance .last .1 .1 .1 .0) =
+    omega (arith, taken .advance .ensures .written-in, taken .advance .kept .1 .1 .1 .0) in
     brings-unknown _ _ _ (taken .advance .ensures) (search needs) fits (closed .close .ensures .0) (closed .close .ensures .1)
 
 same-length-3 : tie.Need-same-length-3
@@ -61,7 +62,8 @@ returns-3 c =
     let taken = c .before .before .before .before .before .before .before in
     let b = taken .before .before .before .before .before in
     let bytes = length-take-le (b .args .fill) (b .args .buf .now) (search needs) in
-    let roomy : Roomy (take (b .args .fill) (b .args .buf .now)) (b .args .out .now) (taken .advance .result) = record { lines = omega (arith, bytes, b .pre .0, b .pre .1 .output); number = omega (arith, c .if2 .left) } in
+    let roomy : Roomy (take (b .args .fill) (b .args .buf .now)) (b .args .out .now) (taken .advance .result) =
+    record { lines = omega (arith, bytes, b .pre .0, b .pre .1 .output); number = omega (arith, c .if2 .left) } in
     brings-goes _ _ _ (taken .advance .ensures) (search needs) roomy (omega (arith, taken .advance .ensures .written-in, taken .advance .kept .1 .1 .1 .0))
 
 pub bring-spec : {M : Type 1} → statement M

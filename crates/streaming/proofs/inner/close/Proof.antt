@@ -22,8 +22,10 @@ returns c =
     let ended = c .before .before in
     let cut = ended .before .before .before .before in
     let taken = cut .before .before in
-    let b = taken .before .before .before in
-    (closing-put _ _ (b .args .at) (omega (arith, b .pre .1)) (taken .take .ensures) (cut .put-cut .ensures .0) (ended .put-end .ensures .0), omega (arith, b .pre .1, cut .put-cut .ensures .1, cut .put-cut .kept, ended .put-end .ensures .1, ended .put-end .kept))
+    let b = taken .before .before .before in (
+      closing-put _ _ (b .args .at) (omega (arith, b .pre .1)) (taken .take .ensures) (cut .put-cut .ensures .0) (ended .put-end .ensures .0),
+      omega (arith, b .pre .1, cut .put-cut .ensures .1, cut .put-cut .kept, ended .put-end .ensures .1, ended .put-end .kept),
+    )
 
 pub close-spec : {M : Type 1} → statement M
 close-spec =
