@@ -153,9 +153,9 @@ heard-right {Air} {A} {c} {Fits} {Call} {holds} {far} d air count target target�
       writes = d .writes air count target target′ call;
       wins = wins-on-air c air (far air) weighs;
       counts = d .counts air count target target′ call ∙ count-on-air c air (far air) weighs;
-      stays = λ other count₂ target₂ target₂′ turned again. d .writes other count₂ target₂ target₂′ again
-          ∙ ap (λ (w : List ℕ). written (holds other w) target₂)
-          (steady-on-air c Fits (d .lawful) air other (far air) (far other) weighs (d .weighs other count₂ target₂ target₂′ again)
+      stays = λ other reported before after turned again. d .writes other reported before after again
+          ∙ ap (λ (w : List ℕ). written (holds other w) before)
+          (steady-on-air c Fits (d .lawful) air other (far air) (far other) weighs (d .weighs other reported before after again)
           (turned-toward c Fits (d .lawful) air other (d .fits air count target target′ call) (nearest (far air) (c .bits)) turned));
     }
   where

@@ -37,5 +37,5 @@ pub record HeardRight {Air A : Type 0} (c : Channel Air A) (Call : Air → ℕ �
   -- the count is its distance
   pub counts : count ≡ distanceOf c air word
   -- turn any symbols that carry it into what it sends there: another call decodes the same word
-  pub stays : (other : Air) (count₂ : ℕ) (target₂ target₂′ : List ℕ) → Turned c word air other → Call other count₂ target₂ target₂′
-      → target₂′ ≡ written (holds other word) target₂
+  pub stays : (other : Air) (reported : ℕ) (before after : List ℕ) → Turned c word air other → Call other reported before after
+      → after ≡ written (holds other word) before
