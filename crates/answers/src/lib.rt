@@ -6,7 +6,6 @@ ghost use Prim.Native.Nat.{_≤_, _<_};
 ghost use lib.ListN.{length, getD};
 ghost use Rattle.answers.specs.Chains.{controlAnswer, slotAnswer, halfAnswer};
 ghost use Rattle.answers.specs.Answering.{startOf, ofReceived, ofJudged, chainOf, answerOf};
-ghost use Rattle.errorcontrol_aach.specs.Access.{decoded};
 use base::Counts;
 use base::KIND;
 use base::Received;

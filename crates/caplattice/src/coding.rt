@@ -5,7 +5,7 @@ ghost use lib.ListN.{length};
 ghost use Rattle.base.specs.Places.{written};
 ghost use Rattle.convenc.specs.Generators.{control, controlThird, speech};
 ghost use Rattle.puncturing.specs.Puncturing.{punctureRefusal, punctured, depunctureRefusal, depunctured};
-ghost use Rattle.comparing.specs.Comparing.{compare, compared};
+ghost use Rattle.comparing.specs.Comparing.{compare};
 ghost use Rattle.viterbi.specs.Decoding.{Decodes};
 ghost use Rattle.caplattice.specs.Answer.{comparedReport, decodedReport};
 ghost use Rattle.caplattice.specs.Promises.{Answers, Refuses, Leaves, Encodes};
@@ -97,7 +97,7 @@ pub extern "C" fn caplattice_mother_memcmp(
     depunct: &[u8],
     answer: &mut [u64; 6],
 ) -> u8
-    ensures { λ r. ⌜ Answers comparedReport (λ x. x ≡ compared (compare (now (mother .entry)) (now (depunct .entry)))) (now (answer .entry)) (now (answer .exit)) r ⌝ }
+    ensures { λ r. ⌜ Answers comparedReport (λ x. x ≡ compare (now (mother .entry)) (now (depunct .entry))) (now (answer .entry)) (now (answer .exit)) r ⌝ }
 {
     answer::tell_compared(comparing::mother_memcmp(mother, depunct), answer)
 }

@@ -12,28 +12,30 @@ use lib.ListN.{length, take, drop, getD, drop-of-length-le}
 use lib.Seq.{drop-cons, take-suc, take-add}
 use borrow.Author.Tests.{eq-eqb, ne-eqb, eqb-true, eqb-false, ltb-true, ltb-false}
 use Rattle.base.specs.Bits.{ERASED}
-use Rattle.comparing.specs.Comparing.{Comparison, agree, differ, oneMore, pick, compare}
+use Rattle.comparing.specs.Comparing.{oneMore, pick, compare}
+use Rattle.comparing.specs.declared.Compared.{Compared}
+use Rattle.comparing.specs.declared.Compared.the-variants.{Matched, Differs}
 use Rattle.comparing.specs.Gathering.{unless-erased, unlike, counts, difference, unerased, differing}
 
 -- so many matches before
-abbrev pub plus : ℕ → Comparison → Comparison
-plus n (agree m) = agree (n + m)
-plus n differ = differ
+abbrev pub plus : ℕ → Compared → Compared
+plus n (Matched m) = Matched (n + m)
+plus n Differs = Differs
 
-plus-zero : (c : Comparison) → c ≡ plus 0 c
-plus-zero (agree m) = ap agree (omega arith)
-plus-zero differ = refl
+plus-zero : (c : Compared) → c ≡ plus 0 c
+plus-zero (Matched m) = ap Matched (omega arith)
+plus-zero Differs = refl
 
-plus-more : (n : ℕ) (c : Comparison) → plus n (oneMore c) ≡ plus (n + 1) c
-plus-more n (agree m) = ap agree (omega arith)
-plus-more n differ = refl
+plus-more : (n : ℕ) (c : Compared) → plus n (oneMore c) ≡ plus (n + 1) c
+plus-more n (Matched m) = ap Matched (omega arith)
+plus-more n Differs = refl
 
-nothing : (ms : List ℕ) → compare ms [] ≡ agree 0
+nothing : (ms : List ℕ) → compare ms [] ≡ Matched 0
 unfolding compare
 nothing [] = refl
 nothing (m ∷ ms) = refl
 
-begun : (ds : List ℕ) → compare [] ds ≡ agree 0
+begun : (ds : List ℕ) → compare [] ds ≡ Matched 0
 unfolding compare
 begun ds = refl
 
@@ -44,7 +46,7 @@ module _ (ms ds : List ℕ) where
   module _ (i : ℕ) (h : i < length ms) (k : i < length ds) where
     one : compare (drop i ms) (drop i ds)
         ≡ pick (eqb (getD ds i 0) ERASED) (compare (drop (i + 1) ms) (drop (i + 1) ds))
-        (pick (eqb (getD ds i 0) (getD ms i 0)) (oneMore (compare (drop (i + 1) ms) (drop (i + 1) ds))) differ)
+        (pick (eqb (getD ds i 0) (getD ms i 0)) (oneMore (compare (drop (i + 1) ms) (drop (i + 1) ds))) Differs)
     unfolding compare
     one = rw (add-one, drop-cons ms i 0 h, drop-cons ds i 0 k)
 
@@ -57,15 +59,15 @@ module _ (ms ds : List ℕ) where
           e
           ∙ rw (one, ne-eqb (getD ds i 0) ERASED known, eq-eqb (getD ds i 0) (getD ms i 0) same) (plus-more n (compare (drop (i + 1) ms) (drop (i + 1) ds)))
 
-      pub matching-differs : (getD ds i 0 ≡ ERASED → ⊥) → (getD ds i 0 ≡ getD ms i 0 → ⊥) → compare ms ds ≡ differ
+      pub matching-differs : (getD ds i 0 ≡ ERASED → ⊥) → (getD ds i 0 ≡ getD ms i 0 → ⊥) → compare ms ds ≡ Differs
       matching-differs known other =
           e ∙ rw (one, ne-eqb (getD ds i 0) ERASED known, ne-eqb (getD ds i 0) (getD ms i 0) other)
 
   -- at the end of the shorter nothing is left
-  pub matching-all : (i n : ℕ) → min (length ms) (length ds) ≤ i → compare ms ds ≡ plus n (compare (drop i ms) (drop i ds)) → compare ms ds ≡ agree n
-  matching-all i n h e = e ∙ ap (plus n) (over (ltb i (length ms)) refl) ∙ ap agree (omega arith)
+  pub matching-all : (i n : ℕ) → min (length ms) (length ds) ≤ i → compare ms ds ≡ plus n (compare (drop i ms) (drop i ds)) → compare ms ds ≡ Matched n
+  matching-all i n h e = e ∙ ap (plus n) (over (ltb i (length ms)) refl) ∙ ap Matched (omega arith)
     where
-      over : (t : Bool) → ltb i (length ms) ≡ t → compare (drop i ms) (drop i ds) ≡ agree 0
+      over : (t : Bool) → ltb i (length ms) ≡ t → compare (drop i ms) (drop i ds) ≡ Matched 0
       over true t =
           ap (compare (drop i ms)) (drop-of-length-le ds {i = i} (omega (arith, ltb-true i (length ms) t))) ∙ nothing (drop i ms)
       over false t =
@@ -119,7 +121,7 @@ or-one (suc (suc x)) h = absurd (omega arith)
 record Gathered (ms ds : List ℕ) (i x : ℕ) : Type 0 where
   bit : x < 2
   same : x ≡ 0 → compare ms ds ≡ plus (unerased (take i ds)) (compare (drop i ms) (drop i ds))
-  other : x ≡ 1 → compare ms ds ≡ differ
+  other : x ≡ 1 → compare ms ds ≡ Differs
 
 gathered-more : (ms ds : List ℕ) (i x : ℕ) → i < length ms → i < length ds → Gathered ms ds i x
     → Gathered ms ds (i + 1) (bitOr x (difference (getD ms i 0) (getD ds i 0)))
@@ -128,7 +130,7 @@ gathered-more ms ds i x h k g = go (eqb d ERASED) (eqb d (getD ms i 0)) refl ref
     d : ℕ
     d = getD ds i 0
 
-    rest : Comparison
+    rest : Compared
     rest = compare (drop (i + 1) ms) (drop (i + 1) ds)
 
     onward : (a : Bool) → eqb d ERASED ≡ a → plus (unerased (take i ds) + unless-erased a 1) rest ≡ plus (unerased (take (i + 1) ds)) rest
@@ -137,7 +139,7 @@ gathered-more ms ds i x h k g = go (eqb d ERASED) (eqb d (getD ms i 0)) refl ref
     zero-more : plus (unerased (take i ds)) rest ≡ plus (unerased (take i ds) + 0) rest
     zero-more = ap (λ (n : ℕ). plus n rest) (omega arith)
 
-    found : (y : ℕ) → x ≡ y → y < 2 → eqb d ERASED ≡ false → eqb d (getD ms i 0) ≡ false → compare ms ds ≡ differ
+    found : (y : ℕ) → x ≡ y → y < 2 → eqb d ERASED ≡ false → eqb d (getD ms i 0) ≡ false → compare ms ds ≡ Differs
     found zero e l p q = matching-differs ms ds i h k (unerased (take i ds)) (g .same e) (eqb-false d ERASED p) (eqb-false d (getD ms i 0) q)
     found (suc zero) e l p q = g .other e
     found (suc (suc y)) e l p q = absurd (omega arith)
@@ -174,8 +176,8 @@ module _ (ms ds : List ℕ) (n : ℕ) (e : n ≡ min (length ms) (length ds)) wh
   all : Gathered ms ds n (differing n ms ds)
   all = gathered ms ds n (omega arith) (omega arith)
 
-  pub some-differ : (differing n ms ds ≡ 0 → ⊥) → compare ms ds ≡ differ
+  pub some-differ : (differing n ms ds ≡ 0 → ⊥) → compare ms ds ≡ Differs
   some-differ h = all .other (omega (arith, all .bit))
 
-  pub none-differ : differing n ms ds ≡ 0 → compare ms ds ≡ agree (unerased (take n ds))
+  pub none-differ : differing n ms ds ≡ 0 → compare ms ds ≡ Matched (unerased (take n ds))
   none-differ h = matching-all ms ds n (unerased (take n ds)) (omega arith) (all .same h)

@@ -1,10 +1,10 @@
 // The comparison of a mother word with a depunctured one.
-// Ported from lmac/components/convenc.rs; changed: it answers by an enum and prints nothing. A caller gets how many entries
-// matched, or that some entry differs; erasures of the depunctured word are not compared.
+// Ported from lmac/components/convenc.rs; changed: the answer is an enum; what differs and what matched are gathered in loops of
+// their own. A caller gets how many entries matched, or that some entry differs; erasures of the depunctured word are skipped.
 ghost use mathlib.Core.Path.{_≡_};
 ghost use Prim.Native.Nat.{_≤_, min};
 ghost use lib.ListN.{length, take};
-ghost use Rattle.comparing.specs.Comparing.{compare, compared};
+ghost use Rattle.comparing.specs.Comparing.{compare};
 ghost use Rattle.comparing.specs.Gathering.{counts, difference, unerased, differing};
 
 // How many entries matched, or that some entry differs.
@@ -81,7 +81,7 @@ fn differing(mother: &[u8], depunct: &[u8], n: usize) -> u8
 
 // A mother word against a depunctured one, up to the shorter length. Entries 0xff of the depunctured one are skipped.
 pub fn mother_memcmp(mother: &[u8], depunct: &[u8]) -> Compared
-    ensures { λ r. ⌜ r ≡ compared (compare (now (mother .entry)) (now (depunct .entry))) ⌝ }
+    ensures { λ r. ⌜ r ≡ compare (now (mother .entry)) (now (depunct .entry)) ⌝ }
 {
     let n = shorter(mother.len(), depunct.len());
     if differing(mother, depunct, n) != 0 {

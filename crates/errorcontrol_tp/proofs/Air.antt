@@ -13,7 +13,7 @@ use Rattle.trellis.proofs.Words.{zeros-bits}
 use Rattle.air.proofs.Moved.{scatter-bits}
 use Rattle.interleaver.specs.Interleaving.{turned, matrixInterleaved}
 use Rattle.interleaver.proofs.Matrix.{matrix-within, matrix-apart}
-use Rattle.scrambler.specs.Scrambling.{scrambled, descrambled, descrambledSymbol, output}
+use Rattle.scrambler.specs.Scrambling.{descrambled, descrambledSymbol, output}
 use Rattle.scrambler.proofs.Blocks.{scrambled-at, scrambled-length, scrambled-bits, descrambled-at, descrambled-scrambled}
 use Rattle.tch_reorder.specs.Order.{channelOf, codecPlace}
 use Rattle.errorcontrol_tp.specs.Speech.{uncoded, speechWord, codedOf, onAir, slot, blockOf}

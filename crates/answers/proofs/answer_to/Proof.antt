@@ -1,7 +1,5 @@
 -- KIND, SHORT, and then the chain.
-use mathlib.Core.Path.{_≡_, refl, sym, ap, _∙_}
 use Rattle.answers.proofs.Laws.{answer-kind, answer-short, answer-chain}
-use native.Mathlib.Omega.{arith}
 use borrow.Author.Needs.{needs}
 use Rattle.answers.proofs.answer_to.Statement.{statement}
 use Rattle.answers.proofs.answer_to.Tie as tie

@@ -1,6 +1,5 @@
 -- The control chain, with room for the longest word.
 use Rattle.answers.specs.Chains.{controlAnswer}
-use native.Mathlib.Omega.{arith}
 use borrow.Author.Needs.{needs}
 use Rattle.answers.proofs.control.Statement.{statement}
 use Rattle.answers.proofs.control.Tie as tie

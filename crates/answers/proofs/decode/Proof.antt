@@ -1,7 +1,5 @@
 -- Each kind to its chain.
-use mathlib.Core.Path.{_≡_, refl, sym, ap, _∙_}
 use Rattle.answers.proofs.Laws.{chain-access, chain-slot, chain-half, chain-control}
-use native.Mathlib.Omega.{arith}
 use borrow.Author.Needs.{needs}
 use Rattle.answers.proofs.decode.Statement.{statement}
 use Rattle.answers.proofs.decode.Tie as tie

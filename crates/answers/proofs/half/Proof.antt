@@ -1,6 +1,5 @@
 -- The speech chain, with room for its codec bits.
 use Rattle.answers.specs.Chains.{halfAnswer}
-use native.Mathlib.Omega.{arith}
 use borrow.Author.Needs.{needs}
 use Rattle.answers.proofs.half.Statement.{statement}
 use Rattle.answers.proofs.half.Tie as tie

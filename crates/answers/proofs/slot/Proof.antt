@@ -1,6 +1,5 @@
 -- The speech chain, with room for its codec bits.
 use Rattle.answers.specs.Chains.{slotAnswer}
-use native.Mathlib.Omega.{arith}
 use borrow.Author.Needs.{needs}
 use Rattle.answers.proofs.slot.Statement.{statement}
 use Rattle.answers.proofs.slot.Tie as tie

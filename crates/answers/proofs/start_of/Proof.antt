@@ -1,7 +1,5 @@
 -- Four bytes, one after the other.
-use mathlib.Core.Path.{_≡_, refl, sym, ap, _∙_}
 use Rattle.answers.proofs.Laws.{start-is}
-use native.Mathlib.Omega.{arith}
 use borrow.Author.Needs.{needs}
 use Rattle.answers.proofs.start_of.Statement.{statement}
 use Rattle.answers.proofs.start_of.Tie as tie

@@ -2,7 +2,6 @@
 use mathlib.Core.Path.{sym, ap, _∙_}
 use borrow.Author.Needs.{needs}
 use Rattle.comparing.specs.declared.Compared.the-variants.{Matched}
-use Rattle.comparing.specs.Comparing.{compared}
 use Rattle.comparing.proofs.Matching.{some-differ, none-differ}
 use Rattle.comparing.proofs.mother_memcmp.Statement.{statement}
 use Rattle.comparing.proofs.mother_memcmp.Tie as tie
@@ -17,7 +16,7 @@ returns : tie.Need-returns
 returns c =
     let a = c .before .before .before .before .before .args in
     let n = c .before .before .shorter in
-    sym (ap compared (some-differ (a .mother .now) (a .depunct .now) (n .result) (n .ensures) (λ e. c .if1 .taken (c .before .differing .ensures ∙ e))))
+    sym (some-differ (a .mother .now) (a .depunct .now) (n .result) (n .ensures) (λ e. c .if1 .taken (c .before .differing .ensures ∙ e)))
 
 unerased-among-requires : tie.Need-unerased-among-requires
 unerased-among-requires c κs = search needs
@@ -28,7 +27,7 @@ returns-2 c =
     let a = e .before .before .before .before .before .args in
     let n = e .before .before .shorter in
     ap Matched (c .unerased-among .ensures)
-    ∙ sym (ap compared (none-differ (a .mother .now) (a .depunct .now) (n .result) (n .ensures) (sym (e .before .differing .ensures) ∙ e .if1 .left)))
+    ∙ sym (none-differ (a .mother .now) (a .depunct .now) (n .result) (n .ensures) (sym (e .before .differing .ensures) ∙ e .if1 .left))
 
 pub mother-memcmp-spec : {M : Type 1} → statement M
 mother-memcmp-spec =

@@ -2,14 +2,9 @@
 use mathlib.Core.Path.{refl}
 use lib.ListN.{replicate}
 use Rattle.errorcontrol_tp.proofs.Parts.{air-made}
-use native.Mathlib.Omega.{arith}
 use borrow.Author.Needs.{needs}
 use Rattle.errorcontrol_tp.proofs.air_bits.Statement.{statement}
 use Rattle.errorcontrol_tp.proofs.air_bits.Tie as tie
-use Rattle.errorcontrol_tp.proofs.air_bits.Reads as reads
-use Rattle.errorcontrol_tp.proofs.air_bits.Lts as lts
-use Rattle.interleaver.proofs.matrix_interleave.Reads as matrix-interleave-reads
-use Rattle.scrambler.proofs.tetra_scramb_bits.Reads as tetra-scramb-bits-reads
 
 -- src/lib.rt:75:44
 slice-aggregate-matrix-interleave : tie.Need-slice-aggregate-matrix-interleave

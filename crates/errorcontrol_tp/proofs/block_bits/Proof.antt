@@ -5,10 +5,6 @@ use native.Mathlib.Omega.{arith}
 use borrow.Author.Needs.{needs}
 use Rattle.errorcontrol_tp.proofs.block_bits.Statement.{statement}
 use Rattle.errorcontrol_tp.proofs.block_bits.Tie as tie
-use Rattle.errorcontrol_tp.proofs.block_bits.Reads as reads
-use Rattle.errorcontrol_tp.proofs.block_bits.Lts as lts
-use Rattle.base.proofs.inner.copy.Reads as copy-reads
-use Rattle.puncturing.proofs.get_punctured_rate.Reads as get-punctured-rate-reads
 
 -- src/lib.rt:100:10
 sub-copy : tie.Need-sub-copy

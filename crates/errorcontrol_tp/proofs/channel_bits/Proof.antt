@@ -7,9 +7,6 @@ use native.Mathlib.Omega.{arith}
 use borrow.Author.Needs.{needs}
 use Rattle.errorcontrol_tp.proofs.channel_bits.Statement.{statement}
 use Rattle.errorcontrol_tp.proofs.channel_bits.Tie as tie
-use Rattle.errorcontrol_tp.proofs.channel_bits.Reads as reads
-use Rattle.errorcontrol_tp.proofs.channel_bits.Lts as lts
-use Rattle.tch_reorder.proofs.codec_to_channel.Reads as codec-to-channel-reads
 
 -- src/lib.rt:55:42
 slice-aggregate-codec-to-channel : tie.Need-slice-aggregate-codec-to-channel

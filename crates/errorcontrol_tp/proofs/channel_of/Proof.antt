@@ -4,10 +4,6 @@ use native.Mathlib.Omega.{arith}
 use borrow.Author.Needs.{needs}
 use Rattle.errorcontrol_tp.proofs.channel_of.Statement.{statement}
 use Rattle.errorcontrol_tp.proofs.channel_of.Tie as tie
-use Rattle.errorcontrol_tp.proofs.channel_of.Reads as reads
-use Rattle.errorcontrol_tp.proofs.channel_of.Lts as lts
-use Rattle.base.proofs.inner.copy.Reads as copy-reads
-use Rattle.errorcontrol_tp.proofs.uncoded_bits.Reads as uncoded-bits-reads
 
 -- src/lib.rt:119:16
 uncoded-bits-requires : tie.Need-uncoded-bits-requires

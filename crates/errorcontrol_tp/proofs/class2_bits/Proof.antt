@@ -5,10 +5,6 @@ use native.Mathlib.Omega.{arith}
 use borrow.Author.Needs.{needs}
 use Rattle.errorcontrol_tp.proofs.class2_bits.Statement.{statement}
 use Rattle.errorcontrol_tp.proofs.class2_bits.Tie as tie
-use Rattle.errorcontrol_tp.proofs.class2_bits.Reads as reads
-use Rattle.errorcontrol_tp.proofs.class2_bits.Lts as lts
-use Rattle.base.proofs.inner.copy.Reads as copy-reads
-use Rattle.speech_crc.proofs.speech_crc.Reads as speech-crc-reads
 
 -- src/lib.rt:64:10
 sub-copy : tie.Need-sub-copy

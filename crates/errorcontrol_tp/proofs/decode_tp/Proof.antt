@@ -4,14 +4,9 @@ use lib.ListN.{length, take}
 use lib.Seq.{length-take-le}
 use Rattle.errorcontrol_tp.proofs.Answers.{receive-refused, receive-done}
 use Rattle.errorcontrol_tp.proofs.Refusals.{receive-accepted}
-use native.Mathlib.Omega.{arith}
 use borrow.Author.Needs.{needs}
 use Rattle.errorcontrol_tp.proofs.decode_tp.Statement.{statement}
 use Rattle.errorcontrol_tp.proofs.decode_tp.Tie as tie
-use Rattle.errorcontrol_tp.proofs.decode_tp.Reads as reads
-use Rattle.errorcontrol_tp.proofs.decode_tp.Lts as lts
-use Rattle.errorcontrol_tp.proofs.receive.Reads as receive-reads
-use Rattle.errorcontrol_tp.proofs.receive_refusal.Reads as receive-refusal-reads
 
 -- src/lib.rt:266:9
 receive-refusal-requires : tie.Need-receive-refusal-requires

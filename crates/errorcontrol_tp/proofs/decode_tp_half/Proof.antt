@@ -9,15 +9,9 @@ use Rattle.base.specs.Places.{written}
 use Rattle.errorcontrol_tp.proofs.Answers.{receive-refused, receive-done}
 use Rattle.errorcontrol_tp.proofs.Refusals.{receive-accepted, half-long}
 use Rattle.errorcontrol_tp.proofs.Chains.{half-made}
-use native.Mathlib.Omega.{arith}
 use borrow.Author.Needs.{needs}
 use Rattle.errorcontrol_tp.proofs.decode_tp_half.Statement.{statement}
 use Rattle.errorcontrol_tp.proofs.decode_tp_half.Tie as tie
-use Rattle.errorcontrol_tp.proofs.decode_tp_half.Reads as reads
-use Rattle.errorcontrol_tp.proofs.decode_tp_half.Lts as lts
-use Rattle.base.proofs.inner.copy.Reads as copy-reads
-use Rattle.errorcontrol_tp.proofs.receive.Reads as receive-reads
-use Rattle.errorcontrol_tp.proofs.receive_refusal.Reads as receive-refusal-reads
 
 -- src/lib.rt:277:9
 receive-refusal-requires : tie.Need-receive-refusal-requires

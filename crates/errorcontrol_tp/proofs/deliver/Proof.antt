@@ -3,15 +3,9 @@ use mathlib.Core.Bool.{Bool}
 use mathlib.Core.Path.{sym, ap, _∙_}
 use Rattle.base.specs.Refusal.{checked}
 use Rattle.errorcontrol_tp.proofs.Parts.{delivered}
-use native.Mathlib.Omega.{arith}
 use borrow.Author.Needs.{needs}
 use Rattle.errorcontrol_tp.proofs.deliver.Statement.{statement}
 use Rattle.errorcontrol_tp.proofs.deliver.Tie as tie
-use Rattle.errorcontrol_tp.proofs.deliver.Reads as reads
-use Rattle.errorcontrol_tp.proofs.deliver.Lts as lts
-use Rattle.errorcontrol_tp.proofs.channel_of.Reads as channel-of-reads
-use Rattle.errorcontrol_tp.proofs.is_good.Reads as is-good-reads
-use Rattle.tch_reorder.proofs.channel_to_codec.Reads as channel-to-codec-reads
 
 -- src/lib.rt:157:19
 channel-of-requires : tie.Need-channel-of-requires

@@ -2,23 +2,16 @@
 use mathlib.Core.Path.{sym, ap, _∙_}
 use mathlib.Core.List.{List}
 use Prim.Native.Nat.{ℕ}
-use lib.ListN.{length, take, drop, length-drop}
-use lib.Seq.{length-take-le, take-all}
+use lib.ListN.{length}
 use Rattle.base.specs.Places.{written}
 use Rattle.base.proofs.Refusals.{refused, done}
-use Rattle.errorcontrol_tp.specs.Speech.{slot, secondHalf}
+use Rattle.errorcontrol_tp.specs.Speech.{slot}
 use Rattle.errorcontrol_tp.proofs.Refusals.{send-accepted}
 use Rattle.errorcontrol_tp.proofs.Air.{slot-long}
 use Rattle.errorcontrol_tp.proofs.Chains.{copied-over}
-use native.Mathlib.Omega.{arith}
 use borrow.Author.Needs.{needs}
 use Rattle.errorcontrol_tp.proofs.encode_tp.Statement.{statement}
 use Rattle.errorcontrol_tp.proofs.encode_tp.Tie as tie
-use Rattle.errorcontrol_tp.proofs.encode_tp.Reads as reads
-use Rattle.errorcontrol_tp.proofs.encode_tp.Lts as lts
-use Rattle.base.proofs.inner.copy.Reads as copy-reads
-use Rattle.errorcontrol_tp.proofs.send_refusal.Reads as send-refusal-reads
-use Rattle.errorcontrol_tp.proofs.slot_bits.Reads as slot-bits-reads
 
 -- src/lib.rt:240:9
 send-refusal-requires : tie.Need-send-refusal-requires

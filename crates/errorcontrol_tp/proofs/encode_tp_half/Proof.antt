@@ -14,11 +14,6 @@ use native.Mathlib.Omega.{arith}
 use borrow.Author.Needs.{needs}
 use Rattle.errorcontrol_tp.proofs.encode_tp_half.Statement.{statement}
 use Rattle.errorcontrol_tp.proofs.encode_tp_half.Tie as tie
-use Rattle.errorcontrol_tp.proofs.encode_tp_half.Reads as reads
-use Rattle.errorcontrol_tp.proofs.encode_tp_half.Lts as lts
-use Rattle.base.proofs.inner.copy.Reads as copy-reads
-use Rattle.errorcontrol_tp.proofs.send_refusal.Reads as send-refusal-reads
-use Rattle.errorcontrol_tp.proofs.slot_bits.Reads as slot-bits-reads
 
 -- src/lib.rt:253:9
 send-refusal-requires : tie.Need-send-refusal-requires

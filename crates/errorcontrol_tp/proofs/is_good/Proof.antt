@@ -3,14 +3,9 @@ use mathlib.Core.Path.{refl, ap, _∙_}
 use lib.ListN.{take, drop, replicate}
 use Rattle.errorcontrol_tp.specs.Speech.{sameBits}
 use Rattle.errorcontrol_tp.proofs.Parts.{check-made}
-use native.Mathlib.Omega.{arith}
 use borrow.Author.Needs.{needs}
 use Rattle.errorcontrol_tp.proofs.is_good.Statement.{statement}
 use Rattle.errorcontrol_tp.proofs.is_good.Tie as tie
-use Rattle.errorcontrol_tp.proofs.is_good.Reads as reads
-use Rattle.errorcontrol_tp.proofs.is_good.Lts as lts
-use Rattle.errorcontrol_tp.proofs.same_check.Reads as same-check-reads
-use Rattle.speech_crc.proofs.speech_crc.Reads as speech-crc-reads
 
 -- src/lib.rt:146:28
 sub-speech-crc : tie.Need-sub-speech-crc

@@ -6,9 +6,6 @@ use native.Mathlib.Omega.{arith}
 use borrow.Author.Needs.{needs}
 use Rattle.errorcontrol_tp.proofs.mother_bits.Statement.{statement}
 use Rattle.errorcontrol_tp.proofs.mother_bits.Tie as tie
-use Rattle.errorcontrol_tp.proofs.mother_bits.Reads as reads
-use Rattle.errorcontrol_tp.proofs.mother_bits.Lts as lts
-use Rattle.convenc.proofs.inner.encode_both.Reads as encode-both-reads
 
 -- src/lib.rt:91:33
 sub-encode-both : tie.Need-sub-encode-both

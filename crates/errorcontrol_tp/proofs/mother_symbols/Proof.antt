@@ -5,9 +5,6 @@ use native.Mathlib.Omega.{arith}
 use borrow.Author.Needs.{needs}
 use Rattle.errorcontrol_tp.proofs.mother_symbols.Statement.{statement}
 use Rattle.errorcontrol_tp.proofs.mother_symbols.Tie as tie
-use Rattle.errorcontrol_tp.proofs.mother_symbols.Reads as reads
-use Rattle.errorcontrol_tp.proofs.mother_symbols.Lts as lts
-use Rattle.puncturing.proofs.tetra_rcpc_depunct.Reads as tetra-rcpc-depunct-reads
 
 -- src/lib.rt:202:36
 sub-tetra-rcpc-depunct : tie.Need-sub-tetra-rcpc-depunct

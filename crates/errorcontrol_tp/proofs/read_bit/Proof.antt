@@ -1,11 +1,7 @@
 -- Each answer by the test that led to it.
 use Rattle.errorcontrol_tp.proofs.Parts.{read-one, read-other}
-use native.Mathlib.Omega.{arith}
-use borrow.Author.Needs.{needs}
 use Rattle.errorcontrol_tp.proofs.read_bit.Statement.{statement}
 use Rattle.errorcontrol_tp.proofs.read_bit.Tie as tie
-use Rattle.errorcontrol_tp.proofs.read_bit.Reads as reads
-use Rattle.errorcontrol_tp.proofs.read_bit.Lts as lts
 
 -- src/lib.rt:96:1
 returns : tie.Need-returns

@@ -2,16 +2,9 @@
 use mathlib.Core.Path.{refl}
 use lib.ListN.{replicate}
 use Rattle.errorcontrol_tp.proofs.Chains.{word-decoded, count-decoded, trellis-cleared, never-refused, verdict-is, codec-is}
-use native.Mathlib.Omega.{arith}
 use borrow.Author.Needs.{needs}
 use Rattle.errorcontrol_tp.proofs.receive.Statement.{statement}
 use Rattle.errorcontrol_tp.proofs.receive.Tie as tie
-use Rattle.errorcontrol_tp.proofs.receive.Reads as reads
-use Rattle.errorcontrol_tp.proofs.receive.Lts as lts
-use Rattle.errorcontrol_tp.proofs.deliver.Reads as deliver-reads
-use Rattle.errorcontrol_tp.proofs.mother_symbols.Reads as mother-symbols-reads
-use Rattle.errorcontrol_tp.proofs.received_block.Reads as received-block-reads
-use Rattle.viterbi.proofs.dec_speech.Reads as dec-speech-reads
 
 -- src/lib.rt:214:9
 received-block-requires : tie.Need-received-block-requires

@@ -1,11 +1,7 @@
 -- Each number by the tests that led to it.
 use borrow.Author.Tests.{lt-ltb, le-ltb}
-use native.Mathlib.Omega.{arith}
-use borrow.Author.Needs.{needs}
 use Rattle.errorcontrol_tp.proofs.receive_refusal.Statement.{statement}
 use Rattle.errorcontrol_tp.proofs.receive_refusal.Tie as tie
-use Rattle.errorcontrol_tp.proofs.receive_refusal.Reads as reads
-use Rattle.errorcontrol_tp.proofs.receive_refusal.Lts as lts
 
 -- src/lib.rt:36:9
 returns : tie.Need-returns

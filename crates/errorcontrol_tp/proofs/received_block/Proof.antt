@@ -2,15 +2,9 @@
 use mathlib.Core.Path.{refl}
 use lib.ListN.{replicate}
 use Rattle.errorcontrol_tp.proofs.Parts.{block-made}
-use native.Mathlib.Omega.{arith}
 use borrow.Author.Needs.{needs}
 use Rattle.errorcontrol_tp.proofs.received_block.Statement.{statement}
 use Rattle.errorcontrol_tp.proofs.received_block.Tie as tie
-use Rattle.errorcontrol_tp.proofs.received_block.Reads as reads
-use Rattle.errorcontrol_tp.proofs.received_block.Lts as lts
-use Rattle.base.proofs.inner.copy.Reads as copy-reads
-use Rattle.interleaver.proofs.matrix_deinterleave.Reads as matrix-deinterleave-reads
-use Rattle.scrambler.proofs.tetra_descramb_bits.Reads as tetra-descramb-bits-reads
 
 -- src/lib.rt:88:15
 slice-aggregate-copy : tie.Need-slice-aggregate-copy

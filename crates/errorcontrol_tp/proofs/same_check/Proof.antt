@@ -1,15 +1,13 @@
 -- The entries before i are the same; the first that differ end the loop.
 use Prim.Native.Nat.{ℕ, _≤_, _<_, _-_}
-use mathlib.Core.Path.{_≡_, refl, sym, ap, _∙_}
-use lib.ListN.{length, getD}
+use mathlib.Core.Path.{_≡_, sym, _∙_}
+use lib.ListN.{getD}
 use borrow.Author.Count.{below-more}
 use Rattle.errorcontrol_tp.proofs.Parts.{same-all, same-none}
 use native.Mathlib.Omega.{arith}
 use borrow.Author.Needs.{needs}
 use Rattle.errorcontrol_tp.proofs.same_check.Statement.{statement}
 use Rattle.errorcontrol_tp.proofs.same_check.Tie as tie
-use Rattle.errorcontrol_tp.proofs.same_check.Reads as reads
-use Rattle.errorcontrol_tp.proofs.same_check.Lts as lts
 
 abbrev Inv-loop : tie.InvT-loop
 Inv-loop a b i₀ i = (i ≤ 8) × ((k : ℕ) → k < i → getD a k 0 ≡ getD b k 0)

@@ -1,13 +1,9 @@
 -- Each number by the tests that led to it.
 use borrow.Author.Tests.{lt-ltb, le-ltb}
 use mathlib.Core.Path.{sym, _∙_}
-use native.Mathlib.Omega.{arith}
 use borrow.Author.Needs.{needs}
 use Rattle.errorcontrol_tp.proofs.send_refusal.Statement.{statement}
 use Rattle.errorcontrol_tp.proofs.send_refusal.Tie as tie
-use Rattle.errorcontrol_tp.proofs.send_refusal.Reads as reads
-use Rattle.errorcontrol_tp.proofs.send_refusal.Lts as lts
-use Rattle.base.proofs.inner.bits_only.Reads as bits-only-reads
 
 -- src/lib.rt:20:9
 returns : tie.Need-returns

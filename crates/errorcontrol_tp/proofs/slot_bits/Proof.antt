@@ -5,17 +5,9 @@ use Prim.Native.Nat.{ℕ}
 use Rattle.base.specs.Bits.{Bits}
 use Rattle.errorcontrol_tp.proofs.RoundTrip.{channel-plain, block-plain}
 use Rattle.errorcontrol_tp.proofs.Chains.{class2-plain, block-is, slot-is}
-use native.Mathlib.Omega.{arith}
 use borrow.Author.Needs.{needs}
 use Rattle.errorcontrol_tp.proofs.slot_bits.Statement.{statement}
 use Rattle.errorcontrol_tp.proofs.slot_bits.Tie as tie
-use Rattle.errorcontrol_tp.proofs.slot_bits.Reads as reads
-use Rattle.errorcontrol_tp.proofs.slot_bits.Lts as lts
-use Rattle.errorcontrol_tp.proofs.air_bits.Reads as air-bits-reads
-use Rattle.errorcontrol_tp.proofs.block_bits.Reads as block-bits-reads
-use Rattle.errorcontrol_tp.proofs.channel_bits.Reads as channel-bits-reads
-use Rattle.errorcontrol_tp.proofs.class2_bits.Reads as class2-bits-reads
-use Rattle.errorcontrol_tp.proofs.mother_bits.Reads as mother-bits-reads
 
 -- src/lib.rt:235:9
 channel-bits-requires : tie.Need-channel-bits-requires

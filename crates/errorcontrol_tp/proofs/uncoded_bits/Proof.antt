@@ -1,8 +1,8 @@
 -- The entries before i are read.
 use Prim.Native.Nat.{ℕ, _≤_, _-_}
-use mathlib.Core.Path.{_≡_, refl, ap, ap₂, _∙_}
+use mathlib.Core.Path.{_≡_, ap, ap₂, _∙_}
 use mathlib.Core.List.{List}
-use lib.ListN.{length, getD, set, replicate, length-replicate}
+use lib.ListN.{getD, set, replicate, length-replicate}
 use Rattle.base.specs.Places.{written, tabulate}
 use Rattle.base.proofs.Lists.{write-none, write-more, written-whole, tabulate-length}
 use Rattle.errorcontrol_tp.specs.Speech.{readBit}
@@ -11,9 +11,6 @@ use native.Mathlib.Omega.{arith}
 use borrow.Author.Needs.{needs}
 use Rattle.errorcontrol_tp.proofs.uncoded_bits.Statement.{statement}
 use Rattle.errorcontrol_tp.proofs.uncoded_bits.Tie as tie
-use Rattle.errorcontrol_tp.proofs.uncoded_bits.Reads as reads
-use Rattle.errorcontrol_tp.proofs.uncoded_bits.Lts as lts
-use Rattle.errorcontrol_tp.proofs.read_bit.Reads as read-bit-reads
 
 abbrev Inv-loop : tie.InvT-loop
 Inv-loop block bits₀ i₀ bits i = (i ≤ 102) × (bits ≡ written (tabulate (λ j. readBit (getD block j 0)) i) (replicate 102 0))
