@@ -4,7 +4,7 @@ use mathlib.Core.Path.{_≡_, refl, sym, ap, ap₂, subst, _∙_}
 use mathlib.Core.List.{List, [], _∷_, _++_, append-nil}
 use mathlib.Core.Bool.{Bool, true, false}
 use Prim.Native.Nat.{ℕ, suc, _+_, _*_, _≤_, _<_}
-use native.Mathlib.Nat.{mul-suc, mul-le-mul-left}
+use native.Mathlib.Nat.{mul-suc, mul-zero, mul-le-mul-left}
 use native.Mathlib.Numerals.{add-one}
 use native.Mathlib.Omega.{arith}
 use lib.ListN.{length, take, drop, getD, length-append}
@@ -22,7 +22,7 @@ use Rattle.convenc.specs.Generators.{outputs, held, delays, encodeRefusa
 use Rattle.convenc.specs.Tapping.{taps, newest, GoesOn}
 use Rattle.trellis.proofs.Encoding.{encode-append}
 use Rattle.convenc.proofs.Encoding.{encoded-length, outputs-length}
-use Rattle.convenc.proofs.Delays.{Four, four, four-bits, delays-none, delays-append, four-after, held-after, newest-front, newest-more}
+use Rattle.convenc.proofs.Delays.{Four, four-bits, delays-none, delays-append, four-after, held-after, newest-front, newest-more}
 use Rattle.convenc.proofs.Refusing.{accepts, encoded-done}
 use Rattle.convenc.proofs.Taps.{taps-outputs, proper}
 
@@ -36,22 +36,24 @@ written-on new old more at e h =
     (ap (λ (n : ℕ). drop (n + length more) (written new old)) e ∙ drop-append-add new (drop (length new) old) (length more)
     ∙ drop-drop (length more) (length new) old ∙ ap (λ (n : ℕ). drop n old) (sym (length-append new more)))
 
--- after i bits of the input: the delays and the target
-pub record Running (code : List (List ℕ)) (d₀ src dst₀ : List ℕ) (i : ℕ) (d dst : List ℕ) : Type 0 where
+-- after i bits of the input: the next place, the delays and the target
+pub record Running (code : List (List ℕ)) (d₀ src dst₀ : List ℕ) (i at : ℕ) (d dst : List ℕ) : Type 0 where
   pub four : length d₀ ≡ 4
   pub fit : i ≤ length src
+  pub place : at ≡ length code * i
   pub state : d ≡ delays d₀ (take i src)
   pub target : dst ≡ written (encode (outputs code) (held d₀) (take i src)) dst₀
 
-pub running-none : (code : List (List ℕ)) (d₀ src dst₀ : List ℕ) → length d₀ ≡ 4 → Running code d₀ src dst₀ 0 d₀ dst₀
+pub running-none : (code : List (List ℕ)) (d₀ src dst₀ : List ℕ) → length d₀ ≡ 4 → Running code d₀ src dst₀ 0 0 d₀ dst₀
 running-none code d₀ src dst₀ h = record {
   four = h;
   fit = omega arith;
+  place = sym (mul-zero (length code));
   state = sym (delays-none d₀ h);
   target = refl;
 }
 
-module _ {code : List (List ℕ)} {d₀ src dst₀ : List ℕ} {i : ℕ} {d dst : List ℕ} (run : Running code d₀ src dst₀ i d dst) where
+module _ {code : List (List ℕ)} {d₀ src dst₀ : List ℕ} {i at : ℕ} {d dst : List ℕ} (run : Running code d₀ src dst₀ i at d dst) where
   -- the target and the delays after the last bit
   pub running-done : length src ≤ i → (d ≡ delays d₀ src) × (dst ≡ written (encode (outputs code) (held d₀) src) dst₀)
   running-done h =
@@ -69,11 +71,12 @@ module _ {code : List (List ℕ)} {d₀ src dst₀ : List ℕ} {i : ℕ} {d dst 
         (omega (arith, made, mul-le-mul-left (length code) (run .fit), accepts (length code) d₀ src (length dst₀) accept .room))
 
     -- the outputs of one more bit have room
-    pub running-room : i < length src → (length code * i + length code ≤ length dst) × (length dst ≡ length dst₀)
+    pub running-room : i < length src → (at + length code ≤ length dst) × (length dst ≡ length dst₀)
     running-room h = (
       omega (
         arith,
         running-length,
+        run .place,
         mul-suc (length code) i,
         mul-le-mul-left {m = suc i} {n = length src} (length code) h,
         accepts (length code) d₀ src (length dst₀) accept .room,
@@ -81,18 +84,17 @@ module _ {code : List (List ℕ)} {d₀ src dst₀ : List ℕ} {i : ℕ} {d dst 
       running-length,
     )
 
-    pub running-more : T (proper code) → i < length src → {d′ dst′ : List ℕ} → d′ ≡ delays d (getD src i 0 ∷ [])
-        → dst′ ≡ sets dst (length code * i) (taps code (getD src i 0) (getD d 0 0 ∷ getD d 1 0 ∷ getD d 2 0 ∷ getD d 3 0 ∷ []))
-        → Running code d₀ src dst₀ (i + 1) d′ dst′
-    running-more t h {d′} {dst′} next stored = record {
+    pub running-more : {rate : ℕ} → rate ≡ length code → T (proper code) → i < length src → {d′ dst′ : List ℕ} → d′ ≡ delays d (getD src i 0 ∷ [])
+        → dst′ ≡ sets dst at (taps code (getD src i 0) d) → Running code d₀ src dst₀ (i + 1) (at + rate) d′ dst′
+    running-more e t h {d′} {dst′} next stored = record {
       four = run .four;
       fit = omega arith;
+      place = omega (arith, e, run .place, mul-suc (length code) i, ap (λ (n : ℕ). length code * n) (add-one i));
       state = next ∙ ap (λ (l : List ℕ). delays l (b ∷ [])) (run .state) ∙ delays-append d₀ (take i src) (b ∷ []) ∙ ap (delays d₀) (sym longer);
       target =
-          stored ∙ ap (λ (l : List ℕ). sets dst (length code * i) (taps code b l)) (sym (four d (here .len)))
-          ∙ ap₂ (λ (l o : List ℕ). sets l (length code * i) o) (run .target) (taps-outputs code t b d (bits-at src bits i) here)
-          ∙ written-on (encode (outputs code) (held d₀) (take i src)) dst₀ (outputs code (16 * b + held d)) (length code * i) (sym made)
-          (omega (arith, made, outputs-length code (16 * b + held d), running-room h, running-length))
+          stored ∙ ap₂ (λ (l o : List ℕ). sets l at o) (run .target) (taps-outputs code t b d (bits-at src bits i) here)
+          ∙ written-on (encode (outputs code) (held d₀) (take i src)) dst₀ (outputs code (16 * b + held d)) at (run .place ∙ sym made)
+          (omega (arith, made, outputs-length code (16 * b + held d), running-room h, running-length, run .place))
           ∙ ap (λ (l : List ℕ). written l dst₀) (sym joined);
     }
       where
@@ -130,14 +132,14 @@ pub record Reading (code : List (List ℕ)) (src dst : List ℕ) (i : ℕ) (dst�
   pub idle : length src ≤ 4 → dst′ ≡ dst
   -- what the loop leaves, from any delays and any target that led there
   pub runs : 4 ≤ length src → (d₀ dst₀ : List ℕ) → length d₀ ≡ 4 → encodeRefusal (length code) d₀ src (length dst₀) ≡ accepted
-      → dst ≡ written (encode (outputs code) (held d₀) (take 4 src)) dst₀ → Running code d₀ src dst₀ i (newest src i) dst′
+      → dst ≡ written (encode (outputs code) (held d₀) (take 4 src)) dst₀ → Running code d₀ src dst₀ i (length code * i) (newest src i) dst′
 
 pub reading-none : (code : List (List ℕ)) (src dst : List ℕ) → Reading code src dst 4 dst
 reading-none code src dst = record {
   past = omega arith;
   kept = refl;
   idle = λ h. refl;
-  runs = λ h d₀ dst₀ l accept e. record { four = l; fit = h; state = newest-front d₀ src h; target = e };
+  runs = λ h d₀ dst₀ l accept e. record { four = l; fit = h; place = refl; state = newest-front d₀ src h; target = e };
 }
 
 module _ {code : List (List ℕ)} {src dst : List ℕ} {i : ℕ} {dst′ : List ℕ} (r : Reading code src dst i dst′) where
@@ -153,7 +155,8 @@ module _ {code : List (List ℕ)} {src dst : List ℕ} {i : ℕ} {dst′ : List 
     kept = ap length stored ∙ length-sets dst′ (length code * i) (taps code (getD src i 0) (newest src i)) ∙ r .kept;
     idle = λ short. absurd (omega (arith, r .past));
     runs = λ k d₀ dst₀ l accept e.
-        running-more (r .runs k d₀ dst₀ l accept e) accept t h (newest-more src i) stored;
+        let next = running-more (r .runs k d₀ dst₀ l accept e) accept refl t h (newest-more src i) stored in
+        record { four = l; fit = next .fit; place = refl; state = next .state; target = next .target };
   }
 
   pub reading-done : length src ≤ i → GoesOn code src dst dst′

@@ -117,8 +117,8 @@ codes-proper codes.Control = tt
 codes-proper codes.ControlThird = tt
 codes-proper codes.Speech = tt
 
--- what the stores of the code that a match found leave
-pub stored-by : (code kind : Code) (i b : ℕ) (d dst : List ℕ) {dst′ : List ℕ} → code ≡ kind
-    → dst′ ≡ sets dst (length (generators kind) * i) (taps (generators kind) b d) → dst′ ≡ sets dst (length (generators code) * i) (taps (generators code) b d)
-stored-by code kind i b d dst e stored =
-    stored ∙ ap (λ (k : Code). sets dst (length (generators k) * i) (taps (generators k) b d)) (sym e)
+-- what the stores of one code leave, over the array of the delays
+pub stored-by : (code kind : Code) (d dst : List ℕ) (at b : ℕ) {dst′ : List ℕ} → code ≡ kind → length d ≡ 4
+    → dst′ ≡ sets dst at (taps (generators kind) b (getD d 0 0 ∷ getD d 1 0 ∷ getD d 2 0 ∷ getD d 3 0 ∷ [])) → dst′ ≡ sets dst at (taps (generators code) b d)
+stored-by code kind d dst at b e l stored =
+    stored ∙ ap₂ (λ (k : Code) (w : List ℕ). sets dst at (taps (generators k) b w)) (sym e) (sym (four d l))

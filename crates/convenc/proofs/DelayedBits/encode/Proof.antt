@@ -1,5 +1,7 @@
 -- After i bits the target and the delays are what the definition gives for those bits.
-use Prim.Native.Nat.{_-_}
+use mathlib.Core.Path.{_≡_}
+use Prim.Native.Nat.{_+_, _-_, _≤_}
+use native.Mathlib.Omega.{arith}
 use lib.ListN.{length}
 use borrow.Author.Needs.{needs}
 use Rattle.convenc.specs.Tapping.{generators}
@@ -10,37 +12,37 @@ use Rattle.convenc.proofs.DelayedBits.encode.Statement.{statement}
 use Rattle.convenc.proofs.DelayedBits.encode.Tie as tie
 
 abbrev Inv-loop : tie.InvT-loop
-Inv-loop code input output₀ s₀ i₀ output s i = Running (generators code) (s₀ .delayed) input output₀ i (s .delayed) output
+Inv-loop code input output₀ rate s₀ i₀ at₀ output s i at = Running (generators code) (s₀ .delayed) input output₀ i at (s .delayed) output
 
 abbrev μ-loop : tie.MeasureT-loop
-μ-loop code input output₀ s₀ i₀ output s i = length input - i
+μ-loop code input output₀ rate s₀ i₀ at₀ output s i at = length input - i
+
+-- the outputs of one more bit have room
+room : (c : tie.In-loop Inv-loop μ-loop)
+    → (c .before .loop .at + length (generators (c .before .before .before .before .before .args .code)) ≤ length (c .before .loop .output))
+    × (length (c .before .loop .output) ≡ length (c .before .before .before .before .before .args .output .now))
+room c = running-room (c .before .loop .inv) (c .before .before .before .before .before .pre) (c .loop-test .taken)
+
+get-rate-requires : tie.Need-get-rate-requires Inv-loop μ-loop
+get-rate-requires c κs = search needs
 
 loop-holds : tie.Need-loop-holds Inv-loop μ-loop
 loop-holds c =
-    let s = c .before .before in
-    running-none (generators (s .args .code)) (s .args .self .delayed) (s .args .input .now) (s .args .output .now)
-    (field-length (s .args .self .delayed) (s .good .0 .1 .1 .0 .1 .0 .1))
+    let a = c .before .before .before .args in
+    running-none (generators (a .code)) (a .self .delayed) (a .input .now) (a .output .now)
+    (field-length (a .self .delayed) (c .before .before .before .good .0 .1 .1 .0 .1 .0 .1))
 
 shared-slice-read-bit : tie.Need-shared-slice-read-bit Inv-loop μ-loop
 shared-slice-read-bit c = search needs
 
-array-read-outputs-of : tie.Need-array-read-outputs-of Inv-loop μ-loop
-array-read-outputs-of c = search needs
-
-array-read-outputs-of-2 : tie.Need-array-read-outputs-of-2 Inv-loop μ-loop
-array-read-outputs-of-2 c = search needs
-
-array-read-outputs-of-3 : tie.Need-array-read-outputs-of-3 Inv-loop μ-loop
-array-read-outputs-of-3 c = search needs
-
-array-read-outputs-of-4 : tie.Need-array-read-outputs-of-4 Inv-loop μ-loop
-array-read-outputs-of-4 c = search needs
-
 outputs-of-requires : tie.Need-outputs-of-requires Inv-loop μ-loop
-outputs-of-requires c κs = running-room (c .before .before .before .before .loop .inv) (c .before .before .before .before .before .before .before .pre) (c .before .before .before .loop-test .taken) .0
+outputs-of-requires c κs = room (c .before .before .before) .0
 
 after-requires : tie.Need-after-requires Inv-loop μ-loop
 after-requires c κs = search needs
+
+add-at : tie.Need-add-at Inv-loop μ-loop
+add-at c = omega (arith, room (c .before .before .before .before .before .before .before), c .before .before .before .before .before .before .before .before .before .get-rate .ensures)
 
 add-i : tie.Need-add-i Inv-loop μ-loop
 add-i c = search needs
@@ -51,14 +53,15 @@ loop-less c = search needs
 loop-again : tie.Need-loop-again Inv-loop μ-loop
 loop-again c =
     let l = c .before .before .before .before .before .before .before .before .loop in
-    let s = c .before .before .before .before .before .before .before .before .before .before .before in
-    running-more (l .inv) (s .pre) (codes-proper (s .args .code)) (c .before .before .before .before .before .before .before .loop-test .taken) (c .after .ensures) (c .before .before .before .outputs-of .ensures)
+    let a = c .before .before .before .before .before .before .before .before .before .before .before .before .args in
+    running-more (l .inv) (c .before .before .before .before .before .before .before .before .before .before .before .before .pre) (c .before .before .before .before .before .before .before .before .before .get-rate .ensures) (codes-proper (a .code)) (c .before .before .before .before .before .before .before .loop-test .taken)
+    (c .after .ensures) (c .before .before .before .outputs-of .ensures)
 
 same-length : tie.Need-same-length Inv-loop μ-loop
-same-length c = running-length (c .before .loop .inv) (c .before .before .before .before .pre)
+same-length c = running-length (c .before .loop .inv) (c .before .before .before .before .before .pre)
 
 returns : tie.Need-returns Inv-loop μ-loop
 returns c = running-done (c .before .loop .inv) (c .loop-test .left)
 
 pub encode-spec : {M : Type 1} → statement M
-encode-spec = tie.close (tie.spec Inv-loop μ-loop loop-holds shared-slice-read-bit array-read-outputs-of array-read-outputs-of-2 array-read-outputs-of-3 array-read-outputs-of-4 outputs-of-requires after-requires add-i loop-less loop-again same-length returns)
+encode-spec = tie.close (tie.spec Inv-loop μ-loop get-rate-requires loop-holds shared-slice-read-bit outputs-of-requires after-requires add-at add-i loop-less loop-again same-length returns)
