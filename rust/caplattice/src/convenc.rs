@@ -43,7 +43,7 @@ impl TryFrom<u8> for RcpcPunctMode {
 /// What [`mother_memcmp`] finds.
 #[derive(Clone, Copy, Debug, PartialEq, Eq, Hash)]
 pub enum Compared {
-    /// All places that are not erased are equal; so many there were, mod 2^32.
+    /// All places that are not erased are equal; so many there were.
     Matched(usize),
     /// Some place differs.
     Differs,
@@ -141,8 +141,6 @@ pub fn tetra_rcpc_depunct(mode: RcpcPunctMode, input: &[u8], len: usize, output:
 }
 
 /// Holds a mother word against a depunctured one, up to the shorter; 0xff in `depunct` is skipped.
-///
-/// The count comes through a field of 32 bits: of 2^32 equal places it says 0.
 pub fn mother_memcmp(mother: &[u8], depunct: &[u8]) -> Compared {
     always_said(|answer| raw::mother_memcmp(mother, depunct, answer)).compared()
 }

@@ -64,8 +64,6 @@ pub fn tetra_rcpc_depunct(pu: RcpcPunctMode, input: &[u8], len: usize, output: &
 }
 
 /// How many places of a mother word and a depunctured one are equal, or that some place differs; 0xff in `depunct` is skipped.
-///
-/// The count is mod 2^32, where the old one has all of `usize`: it comes through a field of 32 bits.
 #[allow(clippy::result_unit_err)]
 pub fn mother_memcmp(mother: &[u8], depunct: &[u8]) -> Result<usize, ()> {
     match proved::mother_memcmp(mother, depunct) {
