@@ -9,7 +9,7 @@ use native.Mathlib.Omega.{arith}
 use lib.Dec.{ltb}
 use borrow.Author.Tests.{ltb-true, ltb-false}
 use lib.ListN.{length, take, drop, getD, set, length-append, length-drop, List·getD-append}
-use lib.Seq.{length-take-le, getD-take, drop-cons, set-at, take-at, drop-at, drop-length, ext-getD, getD-append-add}
+use lib.Seq.{length-take-le, getD-take, drop-cons, set-at, drop-length, ext-getD, getD-append-add}
 use Rattle.base.specs.Places.{tabulate, written}
 
 pub tabulate-length : (f : ℕ → ℕ) (n : ℕ) → length (tabulate f n) ≡ n
@@ -47,24 +47,6 @@ pub tabulate-more : (f : ℕ → ℕ) (n : ℕ) → tabulate f (n + 1) ≡ tabul
 unfolding tabulate
 tabulate-more f n = rw add-one
 
--- a rule's list in two pieces
-pub tabulate-add : (f : ℕ → ℕ) (n m : ℕ) → tabulate f (n + m) ≡ tabulate f n ++ tabulate (λ i. f (n + i)) m
-tabulate-add f n m =
-    sym (tabulate-of (tabulate f n ++ tabulate (λ i. f (n + i)) m) f (n + m)
-    (length-append (tabulate f n) (tabulate (λ i. f (n + i)) m) ∙ ap₂ (λ (x y : ℕ). x + y) (tabulate-length f n) (tabulate-length (λ i. f (n + i)) m))
-    (λ i k. at i k (ltb i n) refl))
-  where
-    at : (i : ℕ) → i < n + m → (t : Bool) → ltb i n ≡ t → getD (tabulate f n ++ tabulate (λ i. f (n + i)) m) i 0 ≡ f i
-    at i k true e =
-        List·getD-append (tabulate f n) (tabulate (λ i. f (n + i)) m) 0 i (omega (arith, tabulate-length f n, ltb-true i n e))
-        ∙ tabulate-at f n i (ltb-true i n e)
-    at i k false e =
-        let p : i ≡ length (tabulate f n) + (i - n) = omega (arith, tabulate-length f n, ltb-false i n e) in
-        let q : n + (i - n) ≡ i = omega (arith, ltb-false i n e) in
-        ap (λ (j : ℕ). getD (tabulate f n ++ tabulate (λ i. f (n + i)) m) j 0) p
-        ∙ getD-append-add (tabulate f n) (tabulate (λ i. f (n + i)) m) (i - n) 0
-        ∙ tabulate-at (λ i. f (n + i)) m (i - n) (omega (arith, ltb-false i n e)) ∙ ap f q
-
 -- ---- a loop that writes entry i at place i
 pub write-none : (f : ℕ → ℕ) (d : List ℕ) → d ≡ written (tabulate f 0) d
 unfolding tabulate
@@ -90,13 +72,6 @@ write-length f i d h =
 -- ---- what is written
 pub written-length : (new old : List ℕ) → length new ≤ length old → length (written new old) ≡ length old
 written-length new old h = omega (arith, length-append new (drop (length new) old), length-drop (length new) old)
-
--- the front of a target that was written over
-pub written-front : (new old : List ℕ) → take (length new) (written new old) ≡ new
-written-front new old = take-at new (drop (length new) old) (length new) refl
-
-pub written-rest : (new old : List ℕ) → drop (length new) (written new old) ≡ drop (length new) old
-written-rest new old = drop-at new (drop (length new) old) (length new) refl
 
 -- a whole target
 pub written-whole : (new old : List ℕ) → length new ≡ length old → written new old ≡ new

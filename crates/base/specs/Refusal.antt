@@ -33,9 +33,6 @@ FIELD = 7
 abbrev pub KIND : ℕ
 KIND = 8
 
-abbrev pub START : ℕ
-START = 9
-
 -- no refusal
 abbrev pub accepted : ℕ
 accepted = 0

@@ -1,10 +1,9 @@
 -- What is true of every report, whatever the entry.
 -- Assumes nothing.
-use mathlib.Core.Path.{_≡_, refl, sym, ap, _∙_}
+use mathlib.Core.Path.{_≡_, sym, ap, _∙_}
 use mathlib.Core.List.{List}
-use Prim.Native.Nat.{ℕ, zero, suc}
+use Prim.Native.Nat.{ℕ}
 use Rattle.base.specs.declared.Outcome.{Outcome}
-use Rattle.base.specs.Refusal.{outcome}
 use Rattle.caplattice.specs.Answer.{Report, returned, answerAfter, outcomeRefusal}
 use Rattle.caplattice.specs.Promises.{Reports, Answers, Refuses}
 
@@ -12,11 +11,6 @@ use Rattle.caplattice.specs.Promises.{Reports, Answers, Refuses}
 pub reported-as : {x y : Report} {before after : List ℕ} {r : ℕ} → x ≡ y → Reports x before after r → Reports y before after r
 reported-as {x} {y} {before} e h =
     record { number = h .number ∙ ap returned e; answer = h .answer ∙ ap (λ (x : Report). answerAfter x before) e }
-
--- what is returned is the entry's own refusal
-pub refusal-returned : (refusal : ℕ) → outcomeRefusal (outcome refusal) ≡ refusal
-refusal-returned zero = refl
-refusal-returned (suc number) = refl
 
 -- where a promise leaves the entry one answer, the call leaves its caller one number and one answer
 pub one-answer : {A : Type 0} (report : A → Report) (promise : A → Type 0) (before : List ℕ) {after after′ : List ℕ} {r r′ : ℕ}

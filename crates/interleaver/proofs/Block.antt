@@ -11,11 +11,10 @@ use borrow.Author.Tests.{ltb-true, ltb-false, le-ltb}
 use lib.ListN.{length, take}
 use Rattle.base.specs.Refusal.{LIMIT, SHORT, ROOM, SHUFFLE, accepted, when}
 use Rattle.base.specs.Places.{written, gather, scatter, Apart, Within}
-use Rattle.base.proofs.Moves.{Onto, gather-length, gather-same, scatter-same, gather-scatter, scatter-gather}
+use Rattle.base.proofs.Moves.{Onto, gather-same, scatter-same, gather-scatter, scatter-gather}
 use Rattle.interleaver.specs.Interleaving.{place, shared, blockRefusal, interleaved, deinterleaved}
 use Rattle.interleaver.specs.Walk.{onward, walk, Ready}
 use Rattle.base.proofs.Refusals.{passed}
-use Rattle.base.proofs.Moves.{scatter-written}
 use Rattle.interleaver.proofs.Divisors.{shared-by, only-one}
 use Rattle.interleaver.proofs.Inverse.{Inverse, inverse}
 use Rattle.interleaver.proofs.Walk.{walk-along}
@@ -193,8 +192,3 @@ module _ (k a : ℕ) (src dst : List ℕ) (h : shared k a ≡ false) (long : k �
   -- what was deinterleaved is interleaved back
   pub interleaved-deinterleaved : interleaved k a (deinterleaved k a src) dst ≡ written (take k src) dst
   interleaved-deinterleaved = scatter-gather (place k a) k src dst (block-apart k a h) (block-within k a) (block-onto k a h) long room
-
-  -- also from a lent target that deinterleaving wrote over
-  pub interleaved-written : (lent : List ℕ) → interleaved k a (written (deinterleaved k a src) lent) dst ≡ written (take k src) dst
-  interleaved-written lent =
-      scatter-written (place k a) k (deinterleaved k a src) lent dst (omega (arith, gather-length (place k a) k src)) ∙ interleaved-deinterleaved

@@ -12,7 +12,7 @@ use lib.ListN.{length, take, drop, getD, set}
 use lib.Seq.{getD-drop}
 use Rattle.base.specs.Refusal.{LIMIT, SHORT, ROOM, accepted, when}
 use Rattle.base.specs.Places.{written, gather, scatter, Apart, Within}
-use Rattle.base.proofs.Moves.{Onto, scatter-same, scatter-join, scatter-set, scatter-back, gather-scatter, scatter-gather, scatter-written, gather-length}
+use Rattle.base.proofs.Moves.{Onto, scatter-same, scatter-join, scatter-set, scatter-back, gather-scatter, scatter-gather}
 use Rattle.base.proofs.Refusals.{passed}
 use Rattle.interleaver.specs.Interleaving.{turned, matrixRefusal, matrixInterleaved, matrixDeinterleaved}
 use Rattle.interleaver.specs.Lines.{MatrixFits, lineMoved}
@@ -177,9 +177,3 @@ module _ (lines columns : ℕ) (src dst : List ℕ) (long : lines * columns ≤ 
   pub matrix-interleaved-deinterleaved : matrixInterleaved lines columns (matrixDeinterleaved lines columns src) dst ≡ written (take (lines * columns) src) dst
   matrix-interleaved-deinterleaved =
       scatter-gather (turned lines columns) (lines * columns) src dst (matrix-apart lines columns) (matrix-within lines columns) (matrix-onto lines columns) long room
-
-  -- also from a lent target that deinterleaving wrote over
-  pub matrix-interleaved-written : (lent : List ℕ) → matrixInterleaved lines columns (written (matrixDeinterleaved lines columns src) lent) dst ≡ written (take (lines * columns) src) dst
-  matrix-interleaved-written lent =
-      scatter-written (turned lines columns) (lines * columns) (matrixDeinterleaved lines columns src) lent dst (omega (arith, gather-length (turned lines columns) (lines * columns) src))
-      ∙ matrix-interleaved-deinterleaved

@@ -5,14 +5,9 @@ use mathlib.Core.List.{List, [], _∷_, _++_, append-assoc}
 use Prim.Native.Nat.{ℕ, _+_, _≤_, _<_}
 use native.Mathlib.Numerals.{add-one}
 use native.Mathlib.Omega.{arith}
-use lib.ListN.{length, take, drop, set, take-append-drop, length-append, length-drop}
+use lib.ListN.{length, take, drop, set, take-append-drop, length-append}
 use lib.Seq.{take-length, take-at, drop-at, drop-drop, length-take-le, set-split, paste}
 use Rattle.lines.specs.Placing.{placed, Put}
-
-pub placed-length : (at : ℕ) (text old : List ℕ) → at + length text ≤ length old → length (placed at text old) ≡ length old
-unfolding placed
-placed-length at text old h =
-    simp (length-append, length-drop) (omega (arith, length-take-le at old (omega arith)))
 
 -- nothing written
 pub put-none : (at : ℕ) (old : List ℕ) → Put [] at old old at

@@ -3,7 +3,7 @@
 use mathlib.Core.Bool.{Bool, true, false}
 use mathlib.Core.Path.{_≡_, refl, sym, ap, subst, _∙_}
 use mathlib.Core.Logic.{_⊎_, inl, inr}
-use mathlib.Core.List.{List, [], _∷_, _++_, append-nil}
+use mathlib.Core.List.{List, [], _++_, append-nil}
 use Prim.Native.Nat.{ℕ, _+_, _≤_, _<_}
 use native.Mathlib.Omega.{arith}
 use lib.ListN.{length, take, drop}
@@ -32,10 +32,6 @@ joins input {rest} {text} {count} piece e =
     feed-append start input piece
     ∙ ap (λ (z : State). feed z piece) (e ∙ sym (waits-held rest text count (stands-waits input e)))
     ∙ sym (feed-append (holding [] text count) rest piece)
-
-nothing : (l : List ℕ) → length l ≡ 0 → l ≡ []
-nothing [] h = refl
-nothing (x ∷ l) h = absurd (omega (arith, h))
 
 module _ (held : Turn) (got : Got) (from : List ℕ) where
   brought-none : got .failed ≡ true → brought held got from ≡ []

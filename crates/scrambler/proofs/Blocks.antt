@@ -10,7 +10,7 @@ use lib.ListN.{length, drop, getD}
 use lib.Seq.{getD-append-add, getD-drop, take-length}
 use Rattle.base.specs.Refusal.{BIT, unless, outcome}
 use Rattle.base.specs.declared.Outcome.the-variants.{Done, Refused}
-use Rattle.base.specs.Bits.{Bits, bitsOnly, ERASED, disagrees, known}
+use Rattle.base.specs.Bits.{Bits, bitsOnly, ERASED, disagrees}
 use Rattle.base.specs.Places.{tabulate, written}
 use Rattle.base.proofs.Lists.{tabulate-length, tabulate-at, tabulate-same, tabulate-of}
 use Rattle.base.proofs.BitLaws.{bits-tabulate, bits-at, bits-only-bits}
@@ -54,11 +54,6 @@ symbol-disagrees (suc zero) y o h k =
     (bit-cases (λ o. disagrees ((1 + o) % 2) 0 ≡ disagrees 1 ((0 + o) % 2)) refl refl o k)
     (bit-cases (λ o. disagrees ((1 + o) % 2) 1 ≡ disagrees 1 ((1 + o) % 2)) refl refl o k) y h
 symbol-disagrees (suc (suc r)) y o h k = refl
-
-pub symbol-known : (r o : ℕ) → o < 2 → known (descrambledSymbol r o) ≡ known r
-symbol-known zero o k = bit-cases (λ o. known o ≡ 1) refl refl o k
-symbol-known (suc zero) o k = bit-cases (λ o. known ((1 + o) % 2) ≡ 1) refl refl o k
-symbol-known (suc (suc r)) o k = refl
 
 -- twice is once from the register 0
 pub symbol-twice : (r o : ℕ) → o < 2 → descrambledSymbol (descrambledSymbol r o) o ≡ descrambledSymbol r 0

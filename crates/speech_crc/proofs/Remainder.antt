@@ -44,10 +44,3 @@ division (suc n) [] h k = absurd (omega arith)
 division (suc n) (b ∷ w) h k =
     ap (λ (l : List ℕ). b ∷ l)
     (ap (added b divisor) (division n (added b divisor w) (added-bits b divisor w (h .1)) (omega (arith, length-added b divisor w))) ∙ added-twice b divisor w (h .1))
-
--- what is left has no term of the degrees that were taken away
-pub divided-length : (n : ℕ) (w : List ℕ) → length (divided n w) ≡ length w - n
-unfolding divided
-divided-length zero w = omega arith
-divided-length (suc n) [] = omega arith
-divided-length (suc n) (b ∷ w) = divided-length n (added b divisor w) ∙ omega (arith, length-added b divisor w)

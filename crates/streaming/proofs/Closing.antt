@@ -7,7 +7,7 @@ use Prim.Native.Nat.{ℕ, zero, suc, _+_, _*_, _≤_, _<_}
 use native.Mathlib.Omega.{arith}
 use borrow.Author.Tests.{leb-false, ltb-false, le-leb, lt-leb, lt-ltb, le-ltb}
 use lib.Dec.{ltb, leb}
-use lib.ListN.{length, drop, length-append}
+use lib.ListN.{length, drop}
 use Rattle.base.specs.Refusal.{LIMIT, ROOM, accepted, when, unless}
 use Rattle.base.specs.Places.{written}
 use Rattle.records.specs.Recording.{stepAt}
@@ -19,7 +19,6 @@ use Rattle.lines.proofs.Placing.{put-then}
 use Rattle.streaming.specs.Runner.{short, closing}
 use Rattle.streaming.specs.Steps.{LARGEST}
 use Rattle.streaming.specs.Closing.{closingRefusal, closed, Closes}
-use Rattle.streaming.specs.declared.Closed.{Closed}
 use Rattle.streaming.specs.declared.Closed.the-variants.{Written, Refused}
 
 module _ (count room : ℕ) where
@@ -79,17 +78,3 @@ closes-written rest count old {r} {next} {new} e z p =
       target =
           p .is ∙ ap (λ (k : ℕ). closing rest count ++ drop k old) n ∙ ap (λ (k : ℕ). unless k (written (closing rest count) old) old) none;
     }
-
--- so many bytes as were written are in the target
-pub closes-fits :
-    (rest : List ℕ) (count : ℕ) (old : List ℕ) {n : ℕ} {answer : Closed} {new : List ℕ} → Closes rest count old answer new → answer ≡ Written n
-    → length new ≡ length old → n ≤ length new
-closes-fits rest count old {n} {answer} {new} c e l = go (closingRefusal count (length old)) (c .result) (c .target)
-  where
-    go :
-        (k : ℕ) → answer ≡ closed k (length (closing rest count)) → new ≡ unless k (written (closing rest count) old) old
-        → n ≤ length new
-    go zero r t =
-        let m : n ≡ length (closing rest count) = cc in
-        omega (arith, ap length t, length-append (closing rest count) (drop (length (closing rest count)) old))
-    go (suc k) r t = let w : _≡_ {A = ℕ} 0 1 = cc in absurd (omega arith)

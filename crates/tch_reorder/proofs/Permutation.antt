@@ -1,6 +1,6 @@
 -- The class tables hold each position once, so that each order undoes the other.
 -- Assumes nothing.
-use mathlib.Core.Path.{_≡_, refl, sym, ap, _∙_}
+use mathlib.Core.Path.{_≡_, sym, ap, _∙_}
 use mathlib.Core.List.{List, [], _∷_}
 use mathlib.Core.Bool.{Bool}
 use Prim.Native.Nat.{ℕ, suc, _+_, _-_, _*_, _/_, _%_, _≤_, _<_}
@@ -10,19 +10,11 @@ use lib.ListN.{length, take}
 use Rattle.base.specs.Refusal.{when}
 use Rattle.base.specs.Bits.{both}
 use Rattle.base.specs.Places.{written, Apart, Within}
-use Rattle.base.proofs.Moves.{Onto, gather-length, gather-scatter, scatter-gather}
+use Rattle.base.proofs.Moves.{Onto, gather-scatter, scatter-gather}
 use Rattle.base.proofs.Table.{at, both-left, both-right}
-use Rattle.base.proofs.Moves.{scatter-written}
-use Rattle.tch_reorder.specs.Order.{class0, class1, class2, order, codecPlace, channelOf, codecOf}
+use Rattle.tch_reorder.specs.Order.{order, codecPlace, channelOf, codecOf}
 
 -- ---- the tables
-pub class-lengths : (length class0 ≡ 51) × (length class1 ≡ 56) × (length class2 ≡ 30)
-class-lengths = (refl, refl, refl)
-
-pub order-length : length order ≡ 137
-unfolding order
-order-length = refl
-
 -- how many entries of the list are p
 abbrev pub times : ℕ → List ℕ → ℕ
 times p [] = 0
@@ -94,8 +86,3 @@ module _ (src dst : List ℕ) (long : 274 ≤ length src) (room : 274 ≤ length
   -- what was put into channel order is put back into codec order
   pub codec-of-channel : codecOf (channelOf src) dst ≡ written (take 274 src) dst
   codec-of-channel = scatter-gather codecPlace 274 src dst codec-apart codec-within codec-onto long room
-
-  -- also from a lent target that the channel order was written over
-  pub codec-of-written : (lent : List ℕ) → codecOf (written (channelOf src) lent) dst ≡ written (take 274 src) dst
-  codec-of-written lent =
-      scatter-written codecPlace 274 (channelOf src) lent dst (omega (arith, gather-length codecPlace 274 src)) ∙ codec-of-channel
