@@ -2,17 +2,8 @@
 -- Assumes nothing.
 use mathlib.Core.List.{List, [], _∷_}
 use mathlib.Core.Bool.{Bool, true, false}
+pub use mathlib.Core.Bool.{_&&_ as both, _||_ as either}
 use Prim.Native.Nat.{ℕ, zero, suc, _<_}
-
--- both tests hold
-abbrev pub both : Bool → Bool → Bool
-both true b = b
-both false b = false
-
--- one of the two holds
-abbrev pub either : Bool → Bool → Bool
-either true b = true
-either false b = b
 
 -- a list of 0 and 1
 abbrev pub Bits : List ℕ → Type 0

@@ -3,6 +3,8 @@
 -- Assumes nothing.
 use Prim.Native.Nat.{ℕ, zero, suc}
 use mathlib.Core.Bool.{Bool, true, false}
+-- `when test number later`: the number where the test holds, and otherwise what the later tests say
+pub use mathlib.Core.Bool.{cond as when}
 use Rattle.base.specs.declared.Outcome.{Outcome}
 use Rattle.base.specs.declared.Outcome.the-variants.{Done, Refused}
 use Rattle.base.specs.declared.Counts.{Counts}
@@ -36,11 +38,6 @@ KIND = 8
 -- no refusal
 abbrev pub accepted : ℕ
 accepted = 0
-
--- the number where the test holds, and otherwise what the later tests say
-abbrev pub when : Bool → ℕ → ℕ → ℕ
-when true number later = number
-when false number later = later
 
 -- of two values the first where nothing is refused, the second where something is
 abbrev pub unless : {A : Type 0} → ℕ → A → A → A

@@ -1,7 +1,8 @@
 -- A mother word held against a depunctured one, up to the shorter length; 0xff in the depunctured one is skipped.
 -- Assumes nothing.
 use mathlib.Core.List.{List, [], _∷_}
-use mathlib.Core.Bool.{Bool, true, false}
+-- `pick test a b`: a where the test holds, and otherwise b
+pub use mathlib.Core.Bool.{cond as pick}
 use Prim.Native.Nat.{ℕ, suc}
 use lib.Dec.{eqb}
 use Rattle.base.specs.Bits.{ERASED}
@@ -11,10 +12,6 @@ use Rattle.comparing.specs.declared.Compared.the-variants.{Matched, Diff
 abbrev pub oneMore : Compared → Compared
 oneMore (Matched n) = Matched (suc n)
 oneMore Differs = Differs
-
-abbrev pub pick : Bool → Compared → Compared → Compared
-pick true a b = a
-pick false a b = b
 
 unfoldable pub compare : List ℕ → List ℕ → Compared
 compare [] ds = Matched 0

@@ -1,6 +1,7 @@
 -- What stands at a place of a recording. A record is one kind byte and a body whose length the kind says.
 -- Assumes nothing.
-use mathlib.Core.Bool.{Bool, true, false}
+-- `pick test a b`: a where the test holds, and otherwise b
+pub use mathlib.Core.Bool.{cond as pick}
 use mathlib.Core.List.{List}
 use Prim.Native.Nat.{ℕ, _+_}
 use lib.Dec.{ltb, leb, eqb}
@@ -9,11 +10,6 @@ use Rattle.records.specs.Kinds.{symbolsOf, bodyLength}
 use Rattle.records.specs.declared.Step.{Step}
 use Rattle.records.specs.declared.Item.{Item}
 use Rattle.records.specs.declared.Item.the-variants.{Whole, Unknown, Cut, End}
-
--- the first of two where the test holds, and otherwise the second
-abbrev pub pick : {X : Type 0} → Bool → X → X → X
-pick true a b = a
-pick false a b = b
 
 -- where the record of the kind that begins at the place ends
 abbrev pub past : ℕ → ℕ → ℕ
