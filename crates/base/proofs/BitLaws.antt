@@ -8,57 +8,36 @@ use native.Mathlib.Omega.{arith}
 use native.Mathlib.Numerals.{add-one}
 use lib.Bits.{bitOr, or-lt, or-add-and, and-le-l, and-le-r}
 use lib.Dec.{ltb}
-use borrow.Author.Tests.{ltb-true, ltb-false, le-ltb}
+use borrow.Author.Tests.{ltb-true, ltb-false, lt-ltb, le-ltb}
 use lib.ListN.{length, take, getD}
-use Rattle.base.specs.Bits.{both, Bits, isBit, bitsOnly, disagrees, known}
+use Rattle.base.specs.Bits.{both, Bits, bitsOnly, disagrees, known}
 use Rattle.base.specs.Places.{tabulate}
 
 -- ---- one entry
-pub is-bit-yes : (b : ℕ) → b < 2 → isBit b ≡ true
-is-bit-yes zero h = refl
-is-bit-yes (suc zero) h = refl
-is-bit-yes (suc (suc b)) h = absurd (omega arith)
-
-pub is-bit-no : (b : ℕ) → 1 < b → isBit b ≡ false
-is-bit-no zero h = absurd (omega arith)
-is-bit-no (suc zero) h = absurd (omega arith)
-is-bit-no (suc (suc b)) h = refl
-
 no-true : {A : Type 0} → false ≡ true → A
 no-true q = absurd (omega (arith, ap {B = ℕ} (λ (t : Bool). cond t 1 0) q))
-
-pub is-bit-lt : (b : ℕ) → isBit b ≡ true → b < 2
-is-bit-lt zero e = omega arith
-is-bit-lt (suc zero) e = omega arith
-is-bit-lt (suc (suc b)) e = no-true e
 
 both-true : (a b : Bool) → both a b ≡ true → (a ≡ true) × (b ≡ true)
 both-true true b e = (refl, e)
 both-true false b e = no-true e
 
--- below 2 is a bit
-pub is-bit-test : (b : ℕ) → ltb b 2 ≡ isBit b
-is-bit-test zero = refl
-is-bit-test (suc zero) = refl
-is-bit-test (suc (suc b)) = le-ltb (suc (suc b)) 2 (omega arith)
-
 -- the bitwise or of two entries is a bit where both are
-pub is-bit-or : (a b : ℕ) → isBit (bitOr a b) ≡ both (isBit a) (isBit b)
+pub is-bit-or : (a b : ℕ) → ltb (bitOr a b) 2 ≡ both (ltb a 2) (ltb b 2)
 is-bit-or a b = go (ltb a 2) refl (ltb b 2) refl
   where
-    go : (s : Bool) → ltb a 2 ≡ s → (t : Bool) → ltb b 2 ≡ t → isBit (bitOr a b) ≡ both (isBit a) (isBit b)
+    go : (s : Bool) → ltb a 2 ≡ s → (t : Bool) → ltb b 2 ≡ t → ltb (bitOr a b) 2 ≡ both (ltb a 2) (ltb b 2)
     go true e true f =
-        is-bit-yes (bitOr a b) (or-lt 1 a b (ltb-true a 2 e) (ltb-true b 2 f))
-        ∙ sym (ap₂ both (is-bit-yes a (ltb-true a 2 e)) (is-bit-yes b (ltb-true b 2 f)))
+        lt-ltb (bitOr a b) 2 (or-lt 1 a b (ltb-true a 2 e) (ltb-true b 2 f))
+        ∙ sym (ap₂ both (lt-ltb a 2 (ltb-true a 2 e)) (lt-ltb b 2 (ltb-true b 2 f)))
     go true e false f =
-        is-bit-no (bitOr a b) (omega (arith, or-add-and a b, and-le-l a b, ltb-false b 2 f))
-        ∙ sym (ap₂ both (is-bit-yes a (ltb-true a 2 e)) (is-bit-no b (ltb-false b 2 f)))
+        le-ltb (bitOr a b) 2 (omega (arith, or-add-and a b, and-le-l a b, ltb-false b 2 f))
+        ∙ sym (ap₂ both (lt-ltb a 2 (ltb-true a 2 e)) (le-ltb b 2 (ltb-false b 2 f)))
     go false e t f =
-        is-bit-no (bitOr a b) (omega (arith, or-add-and a b, and-le-r a b, ltb-false a 2 e))
-        ∙ sym (ap (λ (x : Bool). both x (isBit b)) (is-bit-no a (ltb-false a 2 e)))
+        le-ltb (bitOr a b) 2 (omega (arith, or-add-and a b, and-le-r a b, ltb-false a 2 e))
+        ∙ sym (ap (λ (x : Bool). both x (ltb b 2)) (le-ltb a 2 (ltb-false a 2 e)))
 
 -- ---- a loop that takes entry i in
-pub bits-only-more : (i : ℕ) (s : List ℕ) → i < length s → both (bitsOnly i s) (isBit (getD s i 0)) ≡ bitsOnly (i + 1) s
+pub bits-only-more : (i : ℕ) (s : List ℕ) → i < length s → both (bitsOnly i s) (ltb (getD s i 0) 2) ≡ bitsOnly (i + 1) s
 bits-only-more i s h = rw add-one (more i s h)
   where
     swapped : (a b : Bool) → both a b ≡ both b a
@@ -71,30 +50,30 @@ bits-only-more i s h = rw add-one (more i s h)
     grouped true b c = refl
     grouped false b c = refl
 
-    more : (i : ℕ) (s : List ℕ) → i < length s → both (bitsOnly i s) (isBit (getD s i 0)) ≡ bitsOnly (suc i) s
+    more : (i : ℕ) (s : List ℕ) → i < length s → both (bitsOnly i s) (ltb (getD s i 0) 2) ≡ bitsOnly (suc i) s
     more i [] h = absurd (omega arith)
-    more zero (a ∷ s) h = swapped true (isBit a)
-    more (suc i) (a ∷ s) h = grouped (isBit a) (bitsOnly i s) (isBit (getD s i 0)) ∙ ap (both (isBit a)) (more i s (omega arith))
+    more zero (a ∷ s) h = swapped true (ltb a 2)
+    more (suc i) (a ∷ s) h = grouped (ltb a 2) (bitsOnly i s) (ltb (getD s i 0) 2) ∙ ap (both (ltb a 2)) (more i s (omega arith))
 
 -- each of the entries is a bit where the test holds
 pub bits-only-at : (n i : ℕ) (s : List ℕ) → bitsOnly n s ≡ true → i < n → i < length s → getD s i 0 < 2
 bits-only-at zero i s e h k = absurd (omega arith)
 bits-only-at (suc n) i [] e h k = absurd (omega arith)
-bits-only-at (suc n) zero (a ∷ s) e h k = is-bit-lt a (both-true (isBit a) (bitsOnly n s) e .0)
-bits-only-at (suc n) (suc i) (a ∷ s) e h k = bits-only-at n i s (both-true (isBit a) (bitsOnly n s) e .1) (omega arith) (omega arith)
+bits-only-at (suc n) zero (a ∷ s) e h k = ltb-true a 2 (both-true (ltb a 2) (bitsOnly n s) e .0)
+bits-only-at (suc n) (suc i) (a ∷ s) e h k = bits-only-at n i s (both-true (ltb a 2) (bitsOnly n s) e .1) (omega arith) (omega arith)
 
 pub bits-only-bits : (n : ℕ) (s : List ℕ) → bitsOnly n s ≡ true → Bits (take n s)
 bits-only-bits zero s e = tt
 bits-only-bits (suc n) [] e = tt
 bits-only-bits (suc n) (a ∷ s) e =
-    let p = both-true (isBit a) (bitsOnly n s) e in
-    (is-bit-lt a (p .0), bits-only-bits n s (p .1))
+    let p = both-true (ltb a 2) (bitsOnly n s) e in
+    (ltb-true a 2 (p .0), bits-only-bits n s (p .1))
 
 -- a list of bits passes the test
 pub bits-only-yes : (n : ℕ) (s : List ℕ) → Bits s → bitsOnly n s ≡ true
 bits-only-yes zero s b = refl
 bits-only-yes (suc n) [] b = refl
-bits-only-yes (suc n) (a ∷ s) b = ap₂ both (is-bit-yes a (b .0)) (bits-only-yes n s (b .1))
+bits-only-yes (suc n) (a ∷ s) b = ap₂ both (lt-ltb a 2 (b .0)) (bits-only-yes n s (b .1))
 
 -- ---- lists of bits
 pub bits-append : (a b : List ℕ) → Bits a → Bits b → Bits (a ++ b)

@@ -1,25 +1,21 @@
 -- Bits, one per entry, and received symbols: 0 and 1 are bits, every other byte is an erasure.
 -- Assumes nothing.
 use mathlib.Core.List.{List, [], _∷_}
-use mathlib.Core.Bool.{Bool, true, false}
+use mathlib.Core.Bool.{Bool, true}
 pub use mathlib.Core.Bool.{_&&_ as both, _||_ as either}
 use Prim.Native.Nat.{ℕ, zero, suc, _<_}
+use lib.Dec.{ltb}
 
 -- a list of 0 and 1
 abbrev pub Bits : List ℕ → Type 0
 Bits [] = Unit {0}
 Bits (b ∷ w) = (b < 2) × Bits w
 
-abbrev pub isBit : ℕ → Bool
-isBit zero = true
-isBit (suc zero) = true
-isBit (suc (suc b)) = false
-
 -- each of the first n entries is 0 or 1
 abbrev pub bitsOnly : ℕ → List ℕ → Bool
 bitsOnly zero s = true
 bitsOnly (suc n) [] = true
-bitsOnly (suc n) (b ∷ s) = both (isBit b) (bitsOnly n s)
+bitsOnly (suc n) (b ∷ s) = both (ltb b 2) (bitsOnly n s)
 
 -- the entry of an erasure
 abbrev pub ERASED : ℕ

@@ -1,7 +1,7 @@
 -- The eight check bits of speech class 2 (EN 300 395-2, 5.5.1): the remainder of X^7 times the data by X^7 + X^3 + 1, and a parity.
 -- A polynomial over two elements is the list of its coefficients, the highest degree first.
 -- Assumes nothing.
-use mathlib.Core.List.{List, [], _∷_, _++_}
+use mathlib.Core.List.{List, [], _∷_, _++_, foldr}
 use Prim.Native.Nat.{ℕ, zero, suc, _+_, _-_, _*_, _%_}
 use lib.Dec.{ltb}
 use lib.ListN.{getD, replicate}
@@ -36,16 +36,11 @@ dividend bits = tabulate (λ i. getD bits (59 - i) 0) 60 ++ replicate 7 0
 abbrev pub remainder : List ℕ → List ℕ
 remainder bits = divided 60 (dividend bits)
 
--- the sum of all entries
-abbrev pub total : List ℕ → ℕ
-total [] = 0
-total (b ∷ w) = b + total w
-
 -- the remainder, the lowest degree first, then the parity over the data and the remainder
 unfoldable pub speechCheck : List ℕ → List ℕ
 speechCheck src =
     tabulate (λ i. getD (remainder (dataBits src)) (6 - i) 0) 7
-    ++ ((total (dataBits src) + total (remainder (dataBits src))) % 2 ∷ [])
+    ++ ((foldr _+_ 0 (dataBits src) + foldr _+_ 0 (remainder (dataBits src))) % 2 ∷ [])
 
 abbrev pub checkRefusal : ℕ → ℕ → ℕ
 checkRefusal src dst = when (ltb src 60) SHORT (when (ltb dst 8) ROOM accepted)

@@ -2,12 +2,12 @@
 // Ported from speech_crc in lmac/components/errorcontrol.rs; changed: slices of any length, a lent target, refusal numbers,
 // and the parity runs over the 60 data bits alone where the original's runs over the whole slice.
 ghost use mathlib.Core.Path.{_≡_};
-ghost use mathlib.Core.List.{[], _∷_, _++_};
+ghost use mathlib.Core.List.{[], _∷_, _++_, foldr};
 ghost use Prim.Native.Nat.{_+_, _-_, _%_, _≤_};
 ghost use lib.ListN.{length, getD};
 ghost use Rattle.base.specs.Places.{written, tabulate};
 ghost use Rattle.base.specs.Refusal.{outcome, unless};
-ghost use Rattle.speech_crc.specs.Check.{dataBits, remainder, speechCheck, checkRefusal, total};
+ghost use Rattle.speech_crc.specs.Check.{dataBits, remainder, speechCheck, checkRefusal};
 use base::Outcome;
 use base::ROOM;
 use base::SHORT;
@@ -50,7 +50,7 @@ fn divide(class2: &[u8]) -> [u8; 7]
 // The sum mod 2 of the lowest bits of the first n entries.
 fn parity(s: &[u8], n: usize) -> u8
     requires { ⌜ n ≤ length (now s) ⌝ }
-    ensures { λ r. ⌜ r ≡ total (tabulate (λ i. getD (now (s .entry)) i 0 % 2) n) % 2 ⌝ }
+    ensures { λ r. ⌜ r ≡ foldr _+_ 0 (tabulate (λ i. getD (now (s .entry)) i 0 % 2) n) % 2 ⌝ }
 {
     let mut sum: u8 = 0;
     let mut i: usize = 0;

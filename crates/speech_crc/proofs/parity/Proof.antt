@@ -1,9 +1,9 @@
 -- Before each turn the sum's lowest bit is that of the entries before i.
-use Prim.Native.Nat.{ℕ, _≤_, _-_, _%_}
+use Prim.Native.Nat.{ℕ, _+_, _≤_, _-_, _%_}
+use mathlib.Core.List.{foldr}
 use mathlib.Core.Path.{_≡_, refl, ap, _∙_}
 use lib.ListN.{getD}
 use Rattle.base.specs.Places.{tabulate}
-use Rattle.speech_crc.specs.Check.{total}
 use Rattle.speech_crc.proofs.Sums.{parity-more}
 use native.Mathlib.Omega.{arith}
 use borrow.Author.Needs.{needs}
@@ -11,7 +11,7 @@ use Rattle.speech_crc.proofs.parity.Statement.{statement}
 use Rattle.speech_crc.proofs.parity.Tie as tie
 
 abbrev Inv-loop : tie.InvT-loop
-Inv-loop s n sum₀ i₀ sum i = (i ≤ n) × (sum % 2 ≡ total (tabulate (λ k. getD s k 0 % 2) i) % 2)
+Inv-loop s n sum₀ i₀ sum i = (i ≤ n) × (sum % 2 ≡ foldr _+_ 0 (tabulate (λ k. getD s k 0 % 2) i) % 2)
 
 abbrev μ-loop : tie.MeasureT-loop
 μ-loop s n sum₀ i₀ sum i = n - i
@@ -39,7 +39,7 @@ returns : tie.Need-returns Inv-loop μ-loop
 returns c =
     let l = c .before .loop in
     let e : l .i ≡ c .before .before .args .n = omega arith in
-    l .inv .1 ∙ ap (λ (n : ℕ). total (tabulate (λ k. getD (c .before .before .args .s .now) k 0 % 2) n) % 2) e
+    l .inv .1 ∙ ap (λ (n : ℕ). foldr _+_ 0 (tabulate (λ k. getD (c .before .before .args .s .now) k 0 % 2) n) % 2) e
 
 pub parity-spec : {M : Type 1} → statement M
 parity-spec =

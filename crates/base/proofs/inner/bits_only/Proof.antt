@@ -4,14 +4,15 @@ use mathlib.Core.Path.{_≡_, refl, ap, _∙_}
 use mathlib.Core.Bool.{Bool}
 use native.Mathlib.Omega.{arith}
 use borrow.Author.Needs.{needs}
+use lib.Dec.{ltb}
 use lib.ListN.{getD}
-use Rattle.base.specs.Bits.{both, isBit, bitsOnly}
-use Rattle.base.proofs.BitLaws.{is-bit-test, is-bit-or, bits-only-more}
+use Rattle.base.specs.Bits.{both, bitsOnly}
+use Rattle.base.proofs.BitLaws.{is-bit-or, bits-only-more}
 use Rattle.base.proofs.inner.bits_only.Statement.{statement}
 use Rattle.base.proofs.inner.bits_only.Tie as tie
 
 abbrev Inv-loop : tie.InvT-loop
-Inv-loop s n all₀ i₀ all i = (i ≤ n) × (isBit all ≡ bitsOnly i s)
+Inv-loop s n all₀ i₀ all i = (i ≤ n) × (ltb all 2 ≡ bitsOnly i s)
 
 abbrev μ-loop : tie.MeasureT-loop
 μ-loop s n all₀ i₀ all i = n - i
@@ -34,7 +35,7 @@ loop-again c =
     let l = c .before .before .loop in
     let entry = getD (a .s .now) (l .i) 0 in (
       omega arith,
-      is-bit-or (l .all) entry ∙ ap (λ (t : Bool). both t (isBit entry)) (l .inv .1) ∙ bits-only-more (l .i) (a .s .now) (omega arith),
+      is-bit-or (l .all) entry ∙ ap (λ (t : Bool). both t (ltb entry 2)) (l .inv .1) ∙ bits-only-more (l .i) (a .s .now) (omega arith),
     )
 
 returns : tie.Need-returns Inv-loop μ-loop
@@ -42,7 +43,7 @@ returns c =
     let a = c .before .before .args in
     let l = c .before .loop in
     let e : l .i ≡ a .n = omega arith in
-    is-bit-test (l .all) ∙ l .inv .1 ∙ ap (λ (i : ℕ). bitsOnly i (a .s .now)) e
+    l .inv .1 ∙ ap (λ (i : ℕ). bitsOnly i (a .s .now)) e
 
 pub bits-only-spec : {M : Type 1} → statement M
 bits-only-spec = tie.close (tie.spec Inv-loop μ-loop loop-holds shared-slice-read-all add-i loop-less loop-again returns)
