@@ -17,8 +17,8 @@ use Rattle.speech_crc.specs.Check.{divided, speechCheck}
 use Rattle.bench.specs.Values.{BenchValues}
 
 -- of the positions of the pattern 1 2 5 of 8, only the sixty-sixth lies from 173 to 176, and it is 173
-from-173 : (i : ℕ) → 173 ≤ positionOf 3 8 (1 ∷ 2 ∷ 5 ∷ []) i → positionOf 3 8 (1 ∷ 2 ∷ 5 ∷ []) i ≤ 176
-    → (positionOf 3 8 (1 ∷ 2 ∷ 5 ∷ []) i ≡ 173) × (i - 1 ≡ 65)
+from-173 : (i : ℕ) → 173 ≤ positionOf 8 (1 ∷ 2 ∷ 5 ∷ []) i → positionOf 8 (1 ∷ 2 ∷ 5 ∷ []) i ≤ 176
+    → (positionOf 8 (1 ∷ 2 ∷ 5 ∷ []) i ≡ 173) × (i - 1 ≡ 65)
 from-173 i h k = go (i - 3 * ((i - 1) / 3) - 1) refl h k
   where
     go : (r : ℕ) → i - 3 * ((i - 1) / 3) - 1 ≡ r → 173 ≤ 8 * ((i - 1) / 3) + getD (1 ∷ 2 ∷ 5 ∷ []) r 0 → 8 * ((i - 1) / 3) + getD (1 ∷ 2 ∷ 5 ∷ []) r 0 ≤ 176
@@ -44,7 +44,7 @@ bench =
       speech-one = refl;
       kept-after-gap = refl;
       bit-44-kept = refl;
-      bit-44-alone = λ j h k l. from-173 j k l .0;
+      bit-44-alone = λ j h k l. from-173 (j + 0) k l .0;
       bit-44-skipped = λ j h e. skipped j h (from-173 (j + (j - 1) / 65) (omega (arith, e)) (omega (arith, e)) .1);
       access-word = refl;
       access-beyond = refl;

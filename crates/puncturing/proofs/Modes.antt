@@ -8,13 +8,13 @@ use native.Mathlib.Nat.{mul-add, mul-one, mul-add-div, mul-add-mod-self-left, di
 use native.Mathlib.Numerals.{add-one}
 use native.Mathlib.Omega.{arith}
 use lib.Dec.{T, leb, ltb, eqb, eqb→eq, ltb→lt, leb→le}
-use lib.ListN.{getD}
+use lib.ListN.{length, getD}
 use borrow.Author.Tests.{ltb-true, ltb-false, lt-leb}
 use Rattle.base.specs.Bits.{either}
 use Rattle.base.specs.Places.{Apart, Within}
 use Rattle.base.proofs.Table.{below, at}
 use Rattle.puncturing.specs.Walk.{runs, rows}
-use Rattle.puncturing.specs.Puncturing.{outputsKept, periods, kept, index, position, positionOf, keptPlace, needed}
+use Rattle.puncturing.specs.Puncturing.{periods, kept, index, position, positionOf, keptPlace, needed}
 
 -- a rule of the seven modes
 pub by-mode : (P : ℕ → Type 0) → P 0 → P 1 → P 2 → P 3 → P 4 → P 5 → P 6 → (mode : ℕ) → mode ≤ 6 → P mode
@@ -28,7 +28,7 @@ by-mode P a b c d e f g (suc (suc (suc (suc (suc (suc zero)))))) h = g
 by-mode P a b c d e f g (suc (suc (suc (suc (suc (suc (suc mode))))))) h = absurd (omega arith)
 
 abbrev pub t-of : ℕ → ℕ
-t-of mode = getD outputsKept mode 1
+t-of mode = length (getD kept mode [])
 
 abbrev pub period-of : ℕ → ℕ
 period-of mode = getD periods mode 0
@@ -46,7 +46,7 @@ unfolding position entry
 position-entry mode j x e =
     let same : x + 1 - 1 ≡ x = omega arith in
     let rest : x + 1 - t-of mode * (x / t-of mode) - 1 ≡ x % t-of mode = omega (arith, div-add-mod x (t-of mode)) in
-    ap (λ (i : ℕ). positionOf (t-of mode) (period-of mode) (kept-of mode) i) e
+    ap (λ (i : ℕ). positionOf (period-of mode) (kept-of mode) i) e
     ∙ ap (λ (b : ℕ). period-of mode * (b / t-of mode) + getD (kept-of mode) (x + 1 - t-of mode * (b / t-of mode) - 1) 0) same
     ∙ ap (λ (r : ℕ). period-of mode * (x / t-of mode) + getD (kept-of mode) r 0) rest
 

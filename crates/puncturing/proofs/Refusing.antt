@@ -1,9 +1,9 @@
 -- What a refusal number of puncturing and depuncturing says: the tests that led to it, and what holds where nothing is refused.
 -- Assumes nothing.
-use mathlib.Core.Path.{_≡_, sym}
-use Prim.Native.Nat.{ℕ, _≤_, _<_}
+use mathlib.Core.Path.{_≡_}
+use Prim.Native.Nat.{ℕ, _≤_}
 use lib.Dec.{ltb}
-use borrow.Author.Tests.{ltb-false, lt-ltb, le-ltb}
+use borrow.Author.Tests.{ltb-false, le-ltb}
 use Rattle.base.specs.Refusal.{LIMIT, SHORT, ROOM, KIND, accepted, when}
 use Rattle.base.proofs.Refusals.{passed}
 use Rattle.puncturing.specs.Puncturing.{needed, punctureRefusal, depunctureRefusal}
@@ -32,28 +32,12 @@ moves mode n src dst a b e =
       target = ltb-false dst b (target .0);
     }
 
-module _ (mode n src dst a b : ℕ) where
-  pub moving-kind : 6 < mode → KIND ≡ moving mode n src dst a b
-  moving-kind kind = rw (lt-ltb 6 mode kind)
-
-  module _ (kind : mode ≤ 6) where
-    pub moving-limit : 4096 < n → LIMIT ≡ moving mode n src dst a b
-    moving-limit limit = rw (le-ltb 6 mode kind, lt-ltb 4096 n limit)
-
-    module _ (limit : n ≤ 4096) where
-      pub moving-short : src < a → SHORT ≡ moving mode n src dst a b
-      moving-short source = rw (le-ltb 6 mode kind, le-ltb 4096 n limit, lt-ltb src a source)
-
-      module _ (source : a ≤ src) where
-        pub moving-room : dst < b → ROOM ≡ moving mode n src dst a b
-        moving-room target = rw (le-ltb 6 mode kind, le-ltb 4096 n limit, le-ltb src a source, lt-ltb dst b target)
-
-        pub moving-none : b ≤ dst → accepted ≡ moving mode n src dst a b
-        moving-none target = rw (le-ltb 6 mode kind, le-ltb 4096 n limit, le-ltb src a source, le-ltb dst b target)
+pub moving-none : (mode n src dst a b : ℕ) → Moves mode n src dst a b → moving mode n src dst a b ≡ accepted
+moving-none mode n src dst a b m = rw (le-ltb 6 mode (m .kind), le-ltb 4096 n (m .limit), le-ltb src a (m .source), le-ltb dst b (m .target))
 
 -- ---- what a caller uses: enough of both is accepted
 pub puncture-accepts : (mode n src dst : ℕ) → mode ≤ 6 → n ≤ 4096 → needed mode n ≤ src → n ≤ dst → punctureRefusal mode n src dst ≡ accepted
-puncture-accepts mode n src dst kind limit source target = sym (moving-none mode n src dst (needed mode n) n kind limit source target)
+puncture-accepts mode n src dst kind limit source target = moving-none mode n src dst (needed mode n) n (record { kind = kind; limit = limit; source = source; target = target })
 
 pub depuncture-accepts : (mode n src dst : ℕ) → mode ≤ 6 → n ≤ 4096 → n ≤ src → needed mode n ≤ dst → depunctureRefusal mode n src dst ≡ accepted
-depuncture-accepts mode n src dst kind limit source target = sym (moving-none mode n src dst n (needed mode n) kind limit source target)
+depuncture-accepts mode n src dst kind limit source target = moving-none mode n src dst n (needed mode n) (record { kind = kind; limit = limit; source = source; target = target })

@@ -1,6 +1,6 @@
 -- Which outputs of a step survive puncturing: in all modes but 292_432 and 148_432, whose counts skip, the first one of every step.
 -- Assumes nothing.
-use mathlib.Core.Path.{_≡_, refl, sym, ap, ap₂, _∙_}
+use mathlib.Core.Path.{_≡_, sym, ap, ap₂, _∙_}
 use mathlib.Core.List.{List, [], _∷_}
 use mathlib.Core.Bool.{Bool}
 use Prim.Native.Nat.{ℕ, zero, suc, _+_, _-_, _*_, _/_, _%_, _≤_, _<_}
@@ -32,11 +32,11 @@ abbrev pub first : ℕ → ℕ → ℕ
 first mode s = (t-of mode * s + (getD steps mode 1 - 1)) / getD steps mode 1
 
 plain-index : (mode : ℕ) → T (plain mode) → (j : ℕ) → index mode (j + 1) ≡ j + 1
-plain-index zero t j = refl
-plain-index (suc zero) t j = refl
+plain-index zero t j = omega arith
+plain-index (suc zero) t j = omega arith
 plain-index (suc (suc zero)) t j = absurd t
 plain-index (suc (suc (suc zero))) t j = absurd t
-plain-index (suc (suc (suc (suc mode)))) t j = refl
+plain-index (suc (suc (suc (suc mode)))) t j = omega arith
 
 pub plain-mode : (mode : ℕ) → T (plain mode) → mode ≤ 6
 plain-mode mode t = leb→le mode 6 (both-left (leb mode 6) (either (ltb mode 2) (ltb 3 mode)) t)

@@ -10,8 +10,8 @@ use lib.ListN.{getD}
 use Rattle.base.specs.Places.{Within}
 use Rattle.puncturing.specs.declared.Puncturer.{Puncturer}
 use Rattle.puncturing.specs.declared.Kept.{Kept}
-use Rattle.puncturing.specs.Walk.{runs, rows, Sound, Parameters, Lies, Stands, Period, Periods}
-use Rattle.puncturing.specs.Puncturing.{outputsKept, periods, position, keptPlace}
+use Rattle.puncturing.specs.Walk.{outputsKept, runs, rows, Sound, Parameters, Lies, Stands, Period, Periods}
+use Rattle.puncturing.specs.Puncturing.{periods, position, keptPlace}
 use Rattle.puncturing.proofs.Modes.{t-of, period-of, kept-of, modes, modes-le, entries, quotient, remainder, stays, wraps, entry, position-entry, rows-kept, index-run, position-some, position-most}
 
 -- ---- a mode's parameters

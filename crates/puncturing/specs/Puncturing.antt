@@ -4,13 +4,9 @@
 use mathlib.Core.List.{List, [], _∷_}
 use Prim.Native.Nat.{ℕ, zero, suc, _+_, _-_, _*_, _/_}
 use lib.Dec.{ltb}
-use lib.ListN.{getD}
+use lib.ListN.{length, getD}
 use Rattle.base.specs.Refusal.{LIMIT, SHORT, ROOM, KIND, accepted, when}
 use Rattle.base.specs.Places.{gather, scatter}
-
--- how many outputs a period keeps, by mode
-abbrev pub outputsKept : List ℕ
-outputsKept = 3 ∷ 6 ∷ 3 ∷ 6 ∷ 3 ∷ 9 ∷ 17 ∷ []
 
 -- how many mother positions a period has, by mode
 abbrev pub periods : List ℕ
@@ -30,18 +26,14 @@ kept =
 
 -- i(j): modes 292_432 and 148_432 skip one position after each 65 and each 35
 abbrev pub index : ℕ → ℕ → ℕ
-index zero j = j
-index (suc zero) j = j
-index (suc (suc zero)) j = j + (j - 1) / 65
-index (suc (suc (suc zero))) j = j + (j - 1) / 35
-index (suc (suc (suc (suc mode)))) j = j
+index mode j = j + getD (0 ∷ 0 ∷ (j - 1) / 65 ∷ (j - 1) / 35 ∷ []) mode 0
 
--- k(j) = period blk + P[i - t blk], with i = i(j) and blk = (i - 1) div t
-abbrev pub positionOf : ℕ → ℕ → List ℕ → ℕ → ℕ
-positionOf t period p i = period * ((i - 1) / t) + getD p (i - t * ((i - 1) / t) - 1) 0
+-- k(j) = period blk + P[i - t blk], with i = i(j), t the entries of P, and blk = (i - 1) div t
+abbrev pub positionOf : ℕ → List ℕ → ℕ → ℕ
+positionOf period p i = period * ((i - 1) / length p) + getD p (i - length p * ((i - 1) / length p) - 1) 0
 
 unfoldable pub position : ℕ → ℕ → ℕ
-position mode j = positionOf (getD outputsKept mode 1) (getD periods mode 0) (getD kept mode []) (index mode j)
+position mode j = positionOf (getD periods mode 0) (getD kept mode []) (index mode j)
 
 -- output j, from 0, is the mother entry at this place, from 0
 abbrev pub keptPlace : ℕ → ℕ → ℕ

@@ -9,11 +9,15 @@ use Rattle.puncturing.specs.declared.Puncturer.{Puncturer}
 use Rattle.puncturing.specs.declared.Kept.{Kept}
 use Rattle.puncturing.specs.declared.Direction.{Direction}
 use Rattle.puncturing.specs.declared.Direction.the-variants as ways
-use Rattle.puncturing.specs.Puncturing.{outputsKept, periods, position, keptPlace, punctured, depunctured}
+use Rattle.puncturing.specs.Puncturing.{periods, kept, position, keptPlace, punctured, depunctured}
 
 -- after how many outputs a mode passes one position over; 4096 stands for never, since no more outputs are made
 abbrev pub runs : List ℕ
 runs = 4096 ∷ 4096 ∷ 65 ∷ 35 ∷ 4096 ∷ 4096 ∷ 4096 ∷ []
+
+-- how many outputs a period keeps, by mode
+abbrev pub outputsKept : List ℕ
+outputsKept = 3 ∷ 6 ∷ 3 ∷ 6 ∷ 3 ∷ 9 ∷ 17 ∷ []
 
 -- the kept positions of a period, by mode, each list filled up with zeros
 abbrev pub rows : List (List ℕ)
@@ -35,7 +39,7 @@ pub record Sound (p : Puncturer) : Type 0 where
   pub run-most : p .run ≤ 4096
 
 pub record Parameters (mode : ℕ) (p : Puncturer) : Type 0 where
-  pub t : p .t ≡ getD outputsKept mode 1
+  pub t : p .t ≡ length (getD kept mode [])
   pub period : p .period ≡ getD periods mode 0
   pub run : p .run ≡ getD runs mode 0
   pub sound : Sound p
