@@ -14,6 +14,15 @@ use Rattle.base.specs.Bits.{both, Bits, bitsOnly, disagrees, known}
 use Rattle.base.specs.Places.{tabulate}
 
 -- ---- one entry
+-- what holds of 0 and of 1 holds of every bit
+pub bit-cases : (P : ℕ → Type 0) → P 0 → P 1 → (b : ℕ) → b < 2 → P b
+bit-cases P p q zero h = p
+bit-cases P p q (suc zero) h = q
+bit-cases P p q (suc (suc b)) h = absurd (omega arith)
+
+pub two-bits : (P : ℕ → ℕ → Type 0) → P 0 0 → P 0 1 → P 1 0 → P 1 1 → (a b : ℕ) → a < 2 → b < 2 → P a b
+two-bits P p q r s a b h k = bit-cases (λ x. P x b) (bit-cases (P 0) p q b k) (bit-cases (P 1) r s b k) a h
+
 no-true : {A : Type 0} → false ≡ true → A
 no-true q = absurd (omega (arith, ap {B = ℕ} (λ (t : Bool). cond t 1 0) q))
 

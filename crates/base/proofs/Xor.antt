@@ -1,30 +1,19 @@
 -- Exclusive or: bits as sums mod 2, and the group that numbers make under it.
 -- Assumes nothing.
 use mathlib.Core.Path.{_≡_, refl, sym, ap, _∙_}
-use Prim.Native.Nat.{ℕ, zero, suc, _+_, _/_, _%_, _<_}
+use Prim.Native.Nat.{ℕ, _+_, _/_, _%_, _<_}
 use native.Mathlib.Nat.{add-assoc}
 use native.Mathlib.Omega.{arith}
 use lib.Arith.{bin-ind}
 use lib.Bits.{bitXor, differ, xor-step, xor-shr, xor-comm}
+use Rattle.base.proofs.BitLaws.{two-bits}
 
 -- of two bits it is their sum mod 2
 pub xor-bit : (a b : ℕ) → a < 2 → b < 2 → bitXor a b ≡ (a + b) % 2
-xor-bit zero zero ha hb = refl
-xor-bit zero (suc zero) ha hb = refl
-xor-bit zero (suc (suc b)) ha hb = absurd (omega arith)
-xor-bit (suc zero) zero ha hb = refl
-xor-bit (suc zero) (suc zero) ha hb = refl
-xor-bit (suc zero) (suc (suc b)) ha hb = absurd (omega arith)
-xor-bit (suc (suc a)) b ha hb = absurd (omega arith)
+xor-bit = two-bits (λ a b. bitXor a b ≡ (a + b) % 2) refl refl refl refl
 
 differ-bit : (x y : ℕ) → x < 2 → y < 2 → differ x y ≡ (x + y) % 2
-differ-bit zero zero h k = refl
-differ-bit zero (suc zero) h k = refl
-differ-bit zero (suc (suc y)) h k = absurd (omega arith)
-differ-bit (suc zero) zero h k = refl
-differ-bit (suc zero) (suc zero) h k = refl
-differ-bit (suc zero) (suc (suc y)) h k = absurd (omega arith)
-differ-bit (suc (suc x)) y h k = absurd (omega arith)
+differ-bit = two-bits (λ x y. differ x y ≡ (x + y) % 2) refl refl refl refl
 
 -- ---- digit by digit
 pub xor-half : (a b : ℕ) → bitXor a b / 2 ≡ bitXor (a / 2) (b / 2)

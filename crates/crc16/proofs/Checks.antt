@@ -9,6 +9,7 @@ use native.Mathlib.Omega.{arith}
 use lib.Bits.{bitXor, xor-lt, xor-shr, xor-mod, xor-block, xor-self, xor-zero-r, xor-zero-l, xor-shifted, xor-comm, xor-add-and, and-mask}
 use lib.ListN.{length}
 use lib.Pow.{pow-pos, pow-add, high, low}
+use Rattle.base.proofs.BitLaws.{two-bits}
 use Rattle.base.specs.Bits.{Bits}
 use Rattle.base.specs.Digits.{digits, number}
 use Rattle.base.proofs.DigitLaws.{digits-length, digits-bits, digits-at, number-cons, number-lt, number-digits}
@@ -52,13 +53,7 @@ xor-double a b =
 
 -- ---- a zero's step
 generator-xor : (p q : ℕ) → p < 2 → q < 2 → (p + q) % 2 * GENERATOR ≡ bitXor (p * GENERATOR) (q * GENERATOR)
-generator-xor zero zero h k = refl
-generator-xor zero (suc zero) h k = refl
-generator-xor zero (suc (suc q)) h k = absurd (omega arith)
-generator-xor (suc zero) zero h k = refl
-generator-xor (suc zero) (suc zero) h k = refl
-generator-xor (suc zero) (suc (suc q)) h k = absurd (omega arith)
-generator-xor (suc (suc p)) q h k = absurd (omega arith)
+generator-xor = two-bits (λ p q. (p + q) % 2 * GENERATOR ≡ bitXor (p * GENERATOR) (q * GENERATOR)) refl refl refl refl
 
 -- it takes a sum to the sum
 zero-xor : (x y : ℕ) → step (bitXor x y) 0 ≡ bitXor (step x 0) (step y 0)

@@ -13,16 +13,10 @@ use Rattle.base.specs.declared.Outcome.the-variants.{Done, Refused}
 use Rattle.base.specs.Bits.{Bits, bitsOnly, ERASED, disagrees}
 use Rattle.base.specs.Places.{tabulate, written}
 use Rattle.base.proofs.Lists.{tabulate-length, tabulate-at, tabulate-same, tabulate-of}
-use Rattle.base.proofs.BitLaws.{bits-tabulate, bits-at, bits-only-bits}
+use Rattle.base.proofs.BitLaws.{bit-cases, two-bits, bits-tabulate, bits-at, bits-only-bits}
 use Rattle.base.proofs.Xor.{xor-bit}
 use Rattle.scrambler.specs.Scrambling.{output, scrambled, sendRefusal, descrambledSymbol, descrambled}
 use Rattle.scrambler.proofs.Outputs.{output-lt, output-zero}
-
--- what holds of 0 and of 1 holds of every bit
-pub bit-cases : (P : ℕ → Type 0) → P 0 → P 1 → (b : ℕ) → b < 2 → P b
-bit-cases P p q zero h = p
-bit-cases P p q (suc zero) h = q
-bit-cases P p q (suc (suc b)) h = absurd (omega arith)
 
 -- ---- one symbol
 -- of a bit it is the sum mod 2
@@ -47,12 +41,9 @@ erased-stays o = refl
 -- a symbol costs after descrambling what it cost where the scrambled bit was sent
 pub symbol-disagrees : (r y o : ℕ) → y < 2 → o < 2 → disagrees (descrambledSymbol r o) y ≡ disagrees r ((y + o) % 2)
 symbol-disagrees zero y o h k =
-    bit-cases (λ y. disagrees o y ≡ (y + o) % 2) (bit-cases (λ o. disagrees o 0 ≡ (0 + o) % 2) refl refl o k)
-    (bit-cases (λ o. disagrees o 1 ≡ (1 + o) % 2) refl refl o k) y h
+    two-bits (λ y o. disagrees o y ≡ (y + o) % 2) refl refl refl refl y o h k
 symbol-disagrees (suc zero) y o h k =
-    bit-cases (λ y. disagrees ((1 + o) % 2) y ≡ disagrees 1 ((y + o) % 2))
-    (bit-cases (λ o. disagrees ((1 + o) % 2) 0 ≡ disagrees 1 ((0 + o) % 2)) refl refl o k)
-    (bit-cases (λ o. disagrees ((1 + o) % 2) 1 ≡ disagrees 1 ((1 + o) % 2)) refl refl o k) y h
+    two-bits (λ y o. disagrees ((1 + o) % 2) y ≡ disagrees 1 ((y + o) % 2)) refl refl refl refl y o h k
 symbol-disagrees (suc (suc r)) y o h k = refl
 
 -- twice is once from the register 0
