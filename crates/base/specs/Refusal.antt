@@ -2,6 +2,7 @@
 -- An entry's own refusal is a chain of `when`, in the order of document 01: 8, 7, 6, 1, 5, 2, 3, 4, 9.
 -- Assumes nothing.
 use Prim.Native.Nat.{ℕ, zero, suc}
+use lib.Dec.{ltb}
 use mathlib.Core.Bool.{Bool, true, false}
 -- `when test number later`: the number where the test holds, and otherwise what the later tests say
 pub use mathlib.Core.Bool.{cond as when}
@@ -38,6 +39,10 @@ KIND = 8
 -- no refusal
 abbrev pub accepted : ℕ
 accepted = 0
+
+-- SHORT where the source holds fewer entries than it must, ROOM where the target does, and otherwise what the later tests say
+abbrev pub sized : ℕ → ℕ → ℕ → ℕ → ℕ → ℕ
+sized source least target room later = when (ltb source least) SHORT (when (ltb target room) ROOM later)
 
 -- of two values the first where nothing is refused, the second where something is
 abbrev pub unless : {A : Type 0} → ℕ → A → A → A

@@ -5,7 +5,7 @@ use mathlib.Core.List.{List}
 use mathlib.Core.Bool.{Bool, false}
 use Prim.Native.Nat.{ℕ, zero, suc, _+_, _*_, _/_, _%_}
 use lib.Dec.{ltb, eqb}
-use Rattle.base.specs.Refusal.{LIMIT, SHORT, ROOM, SHUFFLE, accepted, when}
+use Rattle.base.specs.Refusal.{LIMIT, SHUFFLE, accepted, when, sized}
 use Rattle.base.specs.Bits.{both, either}
 use Rattle.base.specs.Places.{gather, scatter}
 
@@ -29,8 +29,7 @@ shared (suc k) a = sharedUpTo k (suc k) a
 
 -- what is refused for src entries of source and dst of target
 abbrev pub blockRefusal : ℕ → ℕ → ℕ → ℕ → ℕ
-blockRefusal k a src dst =
-    when (ltb 4096 k) LIMIT (when (ltb 65535 a) LIMIT (when (shared k a) SHUFFLE (when (ltb src k) SHORT (when (ltb dst k) ROOM accepted))))
+blockRefusal k a src dst = when (ltb 4096 k) LIMIT (when (ltb 65535 a) LIMIT (when (shared k a) SHUFFLE (sized src k dst k accepted)))
 
 -- the target after interleaving: each entry at its place, the rest as it was
 abbrev pub interleaved : ℕ → ℕ → List ℕ → List ℕ → List ℕ
@@ -48,9 +47,7 @@ turned lines columns x = x % columns * lines + x / columns
 abbrev pub matrixRefusal : ℕ → ℕ → ℕ → ℕ → ℕ
 matrixRefusal lines columns src dst =
     when (ltb 4096 lines) LIMIT
-    (when (ltb 4096 columns) LIMIT
-    (when (ltb 4096 (lines * columns)) LIMIT
-    (when (ltb src (lines * columns)) SHORT (when (ltb dst (lines * columns)) ROOM accepted))))
+    (when (ltb 4096 columns) LIMIT (when (ltb 4096 (lines * columns)) LIMIT (sized src (lines * columns) dst (lines * columns) accepted)))
 
 -- the target after interleaving: each entry at its place, the rest as it was
 abbrev pub matrixInterleaved : ℕ → ℕ → List ℕ → List ℕ → List ℕ

@@ -5,7 +5,7 @@ use mathlib.Core.List.{List, [], _∷_}
 use Prim.Native.Nat.{ℕ, zero, suc, _+_, _-_, _*_, _/_}
 use lib.Dec.{ltb}
 use lib.ListN.{length, getD}
-use Rattle.base.specs.Refusal.{LIMIT, SHORT, ROOM, KIND, accepted, when}
+use Rattle.base.specs.Refusal.{LIMIT, KIND, accepted, when, sized}
 use Rattle.base.specs.Places.{gather, scatter}
 
 -- how many mother positions a period has, by mode
@@ -45,12 +45,10 @@ needed mode zero = 0
 needed mode (suc n) = position mode (suc n)
 
 abbrev pub punctureRefusal : ℕ → ℕ → ℕ → ℕ → ℕ
-punctureRefusal mode n src dst =
-    when (ltb 6 mode) KIND (when (ltb 4096 n) LIMIT (when (ltb src (needed mode n)) SHORT (when (ltb dst n) ROOM accepted)))
+punctureRefusal mode n src dst = when (ltb 6 mode) KIND (when (ltb 4096 n) LIMIT (sized src (needed mode n) dst n accepted))
 
 abbrev pub depunctureRefusal : ℕ → ℕ → ℕ → ℕ → ℕ
-depunctureRefusal mode n src dst =
-    when (ltb 6 mode) KIND (when (ltb 4096 n) LIMIT (when (ltb src n) SHORT (when (ltb dst (needed mode n)) ROOM accepted)))
+depunctureRefusal mode n src dst = when (ltb 6 mode) KIND (when (ltb 4096 n) LIMIT (sized src n dst (needed mode n) accepted))
 
 -- the n outputs that puncturing keeps
 abbrev pub punctured : ℕ → ℕ → List ℕ → List ℕ

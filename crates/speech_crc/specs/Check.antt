@@ -3,9 +3,8 @@
 -- Assumes nothing.
 use mathlib.Core.List.{List, [], _∷_, _++_, foldr}
 use Prim.Native.Nat.{ℕ, zero, suc, _+_, _-_, _*_, _%_}
-use lib.Dec.{ltb}
 use lib.ListN.{getD, replicate}
-use Rattle.base.specs.Refusal.{SHORT, ROOM, accepted, when}
+use Rattle.base.specs.Refusal.{accepted, sized}
 use Rattle.base.specs.Places.{tabulate}
 
 -- the divisor X^7 + X^3 + 1 after its leading term
@@ -43,4 +42,4 @@ speechCheck src =
     ++ ((foldr _+_ 0 (dataBits src) + foldr _+_ 0 (remainder (dataBits src))) % 2 ∷ [])
 
 abbrev pub checkRefusal : ℕ → ℕ → ℕ
-checkRefusal src dst = when (ltb src 60) SHORT (when (ltb dst 8) ROOM accepted)
+checkRefusal src dst = sized src 60 dst 8 accepted

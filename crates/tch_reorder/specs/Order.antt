@@ -2,9 +2,8 @@
 -- Assumes nothing.
 use mathlib.Core.List.{List, [], _∷_, _++_}
 use Prim.Native.Nat.{ℕ, _+_, _-_, _*_, _/_, _%_}
-use lib.Dec.{ltb}
 use lib.ListN.{getD}
-use Rattle.base.specs.Refusal.{SHORT, ROOM, accepted, when}
+use Rattle.base.specs.Refusal.{accepted, sized}
 use Rattle.base.specs.Places.{gather, scatter}
 
 -- class 0, as positions in a subframe of 137, counted from 1
@@ -36,7 +35,7 @@ codecPlace x = 137 * (x % 2) + getD order (x / 2) 0 - 1
 
 -- what is refused for src entries of source and dst of target
 abbrev pub reorderRefusal : ℕ → ℕ → ℕ
-reorderRefusal src dst = when (ltb src 274) SHORT (when (ltb dst 274) ROOM accepted)
+reorderRefusal src dst = sized src 274 dst 274 accepted
 
 -- the 274 entries in channel order
 abbrev pub channelOf : List ℕ → List ℕ
