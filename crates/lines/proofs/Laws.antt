@@ -12,7 +12,7 @@ use lib.ListN.{length, length-append}
 use Rattle.rm3014.specs.declared.Verdict.{Verdict}
 use Rattle.answers.specs.declared.Answer.{Answer}
 use Rattle.lines.specs.Lines.{SAID, counted, judged, heading, line, verdictText, answerText}
-use Rattle.lines.specs.Placing.{Put}
+use Rattle.lines.specs.private.Placing.{Put}
 use Rattle.lines.proofs.Placing.{put-none, put-then}
 use Rattle.lines.specs.Text.{sign, hex, decimalWithin, decimal}
 

@@ -7,7 +7,7 @@ use native.Mathlib.Numerals.{add-one}
 use native.Mathlib.Omega.{arith}
 use lib.ListN.{length, take, drop, set, take-append-drop, length-append}
 use lib.Seq.{take-length, take-at, drop-at, drop-drop, length-take-le, set-split, paste}
-use Rattle.lines.specs.Placing.{placed, Put}
+use Rattle.lines.specs.private.Placing.{placed, Put}
 
 -- nothing written
 pub put-none : (at : ℕ) (old : List ℕ) → Put [] at old old at
@@ -65,10 +65,6 @@ copied at text old {i} {new} e p = record {
   ends = ap (λ (k : ℕ). at + k) e;
 }
 
--- ---- what a text written at a place leaves on its two sides
+-- ---- what a text written at a place leaves before and in it
 pub put-front : {text old new : List ℕ} {at next : ℕ} → at ≤ length old → Put text at old new next → take next new ≡ take at old ++ text
 put-front {text} {old} {new} {at} {next} h p = ap₂ take (p .ends) (p .is) ∙ front at text old h
-
-pub put-rest : {text old new : List ℕ} {at next : ℕ} → at ≤ length old → Put text at old new next → drop next new ≡ drop next old
-put-rest {text} {old} {new} {at} {next} h p =
-    ap₂ drop (p .ends) (p .is) ∙ rest at text old h ∙ ap (λ (k : ℕ). drop k old) (sym (p .ends))

@@ -1,3 +1,3 @@
 pub mod Text
 pub mod Lines
-pub mod Placing
+pub mod private

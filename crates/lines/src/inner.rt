@@ -4,7 +4,7 @@ ghost use mathlib.Core.List.{[], _∷_};
 ghost use Prim.Native.Nat.{_+_, _≤_, _<_};
 ghost use mathlib.Core.Path.{_≡_};
 ghost use lib.ListN.{length};
-ghost use Rattle.lines.specs.Placing.{Put};
+ghost use Rattle.lines.specs.private.Placing.{Put};
 ghost use Rattle.lines.specs.Text.{sign, decimal, hex};
 ghost use Rattle.lines.specs.Lines.{LINE, SAID, counted, judged, verdictText, answerText, heading, line, recordLine, unknownLine, shortLine, endLine};
 use answers::Answer;

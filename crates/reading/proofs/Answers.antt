@@ -11,7 +11,7 @@ use lib.Signed.{ltZ, nonNeg}
 use mir.Syntax.{w64}
 use mir.Val.{Fits, SFits}
 use mir.Facts.{fits-natAbs}
-use Rattle.streaming.proofs.Turns.{no-true}
+use Rattle.streaming.proofs.Stepping.{no-true}
 use Rattle.reading.specs.Answers.{meant}
 
 pub unread : (room : ℕ) (answer : ℤ) → ltZ answer (pos 0) ≡ true → record { bytes = 0; failed = true } ≡ meant answer room

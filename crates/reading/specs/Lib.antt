@@ -1,4 +1,5 @@
 pub mod Answers
 pub mod Turns
 pub mod Reading
+pub mod Pieces
 pub mod Parts

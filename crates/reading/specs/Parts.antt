@@ -7,8 +7,7 @@ use mathlib.Core.List.{List, [], _++_}
 use Prim.Native.Nat.{ℕ, _≤_, _<_}
 use lib.ListN.{length, take}
 use Rattle.streaming.specs.Runner.{holding, start, feed}
-use Rattle.streaming.specs.Steps.{LARGEST}
-use Rattle.streaming.specs.Advancing.{LONGEST}
+use Rattle.streaming.specs.Limits.{LARGEST, LONGEST}
 use Rattle.reading.specs.declared.Next.the-variants.{Goes}
 use Rattle.reading.specs.declared.Got.{Got}
 use Rattle.reading.specs.declared.Turn.{Turn}

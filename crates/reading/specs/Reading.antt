@@ -9,8 +9,7 @@ use lib.ListN.{length, take, drop}
 use Rattle.records.specs.Recording.{pick}
 use Rattle.lines.specs.Lines.{LINE}
 use Rattle.streaming.specs.Runner.{State, holding, start, feed, linesOf}
-use Rattle.streaming.specs.Steps.{LARGEST}
-use Rattle.streaming.specs.Advancing.{LONGEST}
+use Rattle.streaming.specs.Limits.{LARGEST, LONGEST}
 use Rattle.reading.specs.declared.Next.{Next}
 use Rattle.reading.specs.declared.Next.the-variants.{Goes, Whole, Cut, Unknown, Unread, Unwritten, Full}
 use Rattle.reading.specs.declared.Got.{Got}

@@ -2,7 +2,7 @@
 ghost use Prim.Native.Nat.{_+_, _*_, _≤_, _<_};
 ghost use lib.ListN.{length, take};
 ghost use Rattle.lines.specs.Lines.{LINE};
-ghost use Rattle.streaming.specs.Steps.{LARGEST};
+ghost use Rattle.streaming.specs.Limits.{LARGEST};
 ghost use Rattle.reading.specs.Reading.{Fits, Room, Takes};
 ghost use Rattle.reading.specs.Parts.{Brings, Finishes};
 use crate::Got;

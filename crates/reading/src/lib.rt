@@ -4,9 +4,11 @@
 // A caller gets the first turn, and from each turn the next. It cannot make one up.
 pub mod inner;
 
+ghost use mathlib.Core.Bool.{true, false};
 ghost use mathlib.Core.Path.{_≡_};
 ghost use Rattle.reading.specs.Answers.{meant};
-ghost use Rattle.reading.specs.Turns.{first, going, wrote};
+ghost use Rattle.reading.specs.declared.Next.the-variants.{Goes};
+ghost use Rattle.reading.specs.Turns.{first, wrote};
 
 // Whether to go on, and why not: the input has ended behind a whole record, or inside one; a kind is
 // not known; the input could not be read; the lines could not be written; no number is left.
@@ -110,18 +112,13 @@ impl Turn {
     }
 
     pub fn goes(self) -> bool
-        ensures { λ r. ⌜ r ≡ going (self .next) ⌝ }
+        ensures { λ r. ⌜ (r ≡ true → self .next ≡ Goes) × (r ≡ false → self .next ≡ Goes → ⊥) ⌝ }
     {
         let next = self.next;
-        match next {
-            Next::Goes => true,
-            Next::Whole => false,
-            Next::Cut => false,
-            Next::Unknown => false,
-            Next::Unread => false,
-            Next::Unwritten => false,
-            Next::Full => false,
+        if let Next::Goes = next {
+            return true;
         }
+        false
     }
 
     // The same turn once its lines are written, and the end where they could not be.

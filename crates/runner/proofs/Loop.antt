@@ -9,19 +9,17 @@ use native.Mathlib.Omega.{arith}
 use lib.ListN.{length, take}
 use lib.Seq.{take-at, length-take-le}
 use lib.IntN.{ℤ, pos, negsuc}
-use Rattle.records.specs.Recording.{pick}
-use Rattle.streaming.specs.Runner.{holding, feed}
-use Rattle.streaming.specs.Steps.{LARGEST}
-use Rattle.streaming.specs.Advancing.{LONGEST}
-use Rattle.streaming.proofs.Turns.{no-true}
+use Rattle.streaming.specs.Limits.{LARGEST, LONGEST}
 use Rattle.reading.specs.declared.Next.{Next}
 use Rattle.reading.specs.declared.Next.the-variants.{Goes, Whole, Cut, Unknown, Unread, Unwritten, Full}
 use Rattle.reading.specs.declared.Got.{Got}
 use Rattle.reading.specs.declared.Turn.{Turn}
 use Rattle.reading.specs.Answers.{meant}
-use Rattle.reading.specs.Turns.{first, going, wrote}
-use Rattle.reading.specs.Reading.{Stands, Says, brought, Onward}
-use Rattle.runner.specs.Loop.{Reads, Writes, Story}
+use Rattle.reading.specs.Turns.{first, wrote}
+use Rattle.reading.specs.Reading.{brought, Onward}
+use Rattle.reading.specs.Pieces.{Ran, begins, turns, loses}
+use Rattle.runner.specs.Loop.{Story}
+use Rattle.runner.specs.private.Transfers.{Reads, Writes}
 
 -- ---- a read
 -- the front of a list whose rest was written over
@@ -41,16 +39,6 @@ reads-behind held {fill} {got} {buf} {new} answer k h e t = record {
   kept = subst (λ (n : ℕ). take n new ≡ take n buf) k t;
 }
 
--- ---- whether a turn goes on
-pub goes-is : (next : Next) → going next ≡ true → next ≡ Goes
-goes-is Goes e = refl
-goes-is Whole e = no-true e
-goes-is Cut e = no-true e
-goes-is Unknown e = no-true e
-goes-is Unread e = no-true e
-goes-is Unwritten e = no-true e
-goes-is Full e = no-true e
-
 -- ---- the invariant
 -- where a turn goes on, there is room for a read and a number for a line
 pub record Ready (turn : Turn) : Type 0 where
@@ -60,42 +48,45 @@ pub record Ready (turn : Turn) : Type 0 where
 pub ready-first : {t : Turn} → t ≡ first → Ready t
 ready-first e = record { small = omega (arith, ap (λ (x : Turn). x .kept) e); number = omega (arith, ap (λ (x : Turn). x .count) e) }
 
-pub story-first : {t : Turn} (buf out : List ℕ) → t ≡ first → Story t buf out
-unfolding feed
-story-first buf out e = subst (λ (x : Turn). Story x buf out) (sym e) (record { input = []; text = []; says = refl })
+pub story-first : {t : Turn} (buf : List ℕ) → t ≡ first → Story t buf
+story-first buf e = subst (λ (x : Turn). Story x buf) (sym e) (record { input = []; text = []; ran = begins buf })
 
-module _ (held : Turn) {got : Got} {from : List ℕ} {r : Turn} {buf out : List ℕ} (g : going (held .next) ≡ true) (w : Writes held got from r buf out) where
+module _ (held : Turn) {got : Got} {from : List ℕ} {r : Turn} {buf out : List ℕ} (g : held .next ≡ Goes) (w : Writes held got from r buf out) where
   abbrev t : Turn
   t = w .turn
 
-  pub story-on : {was old : List ℕ} → Story held was old → take (held .kept) from ≡ take (held .kept) was → Story r buf out
-  story-on {was} {old} s e = subst (λ (x : Turn). Story x buf out) (sym (w .is)) (go (w .done))
+  pub story-on : {was : List ℕ} → Story held was → take (held .kept) from ≡ take (held .kept) was → Story r buf
+  story-on {was} s e = subst (λ (x : Turn). Story x buf) (sym (w .is)) (go (w .done))
     where
-      before : List ℕ
-      before = s .text ++ take (held .written) old
+      took : Ran (s .input ++ brought held got from) (s .text ++ take (t .written) out) t buf
+      took = turns got (s .ran) g e (w .takes)
 
-      stands : Stands (s .input) (take (held .kept) from) before (held .count)
-      stands =
-          subst (λ (next : Next). Says next (s .input) (take (held .kept) was) before (held .count)) (goes-is (held .next) g) (s .says)
-          ∙ ap (λ (l : List ℕ). holding l before (held .count)) (sym e)
+      go : (done : Bool) → Story (wrote done t) buf
+      go true = record { input = _; text = _; ran = took }
+      go false = record { input = _; text = _; ran = loses took }
 
-      go : (done : Bool) → Story (wrote done t) buf out
-      go true = record { input = s .input ++ brought held got from; text = before; says = w .takes .says (s .input) before stands }
-      go false = record { input = []; text = []; says = tt }
-
-  pub onward : going (r .next) ≡ true → Onward held r
-  onward z = subst (λ (x : Turn). Onward held x) (sym (w .is)) (go (w .done) (ap (λ (x : Turn). going (x .next)) (sym (w .is)) ∙ z))
+  pub onward : r .next ≡ Goes → Onward held r
+  onward z = subst (λ (x : Turn). Onward held x) (sym (w .is)) (go (w .done) (ap (λ (x : Turn). x .next) (sym (w .is)) ∙ z))
     where
-      go : (done : Bool) → going (wrote done t .next) ≡ true → Onward held (wrote done t)
-      go true e = w .takes .onward (goes-is (t .next) e)
-      go false e = no-true e
+      go : (done : Bool) → wrote done t .next ≡ Goes → Onward held (wrote done t)
+      go true e = w .takes .onward e
+      go false e = let n : _≡_ {A = ℕ} 0 1 = cc in absurd (omega arith)
 
-  pub ready-on : going (r .next) ≡ true → Ready r
+  pub ready-on : r .next ≡ Goes → Ready r
   ready-on z = record { small = onward z .small; number = onward z .number }
 
 -- ---- the measure: each turn that goes on counts a record or keeps more
+abbrev leftBy : Next → ℕ → ℕ
+leftBy Goes n = suc n
+leftBy Whole n = 0
+leftBy Cut n = 0
+leftBy Unknown n = 0
+leftBy Unread n = 0
+leftBy Unwritten n = 0
+leftBy Full n = 0
+
 abbrev pub left : Turn → ℕ
-left turn = pick (going (turn .next)) (suc ((LARGEST - turn .count) * LONGEST + (LONGEST - turn .kept))) 0
+left turn = leftBy (turn .next) ((LARGEST - turn .count) * LONGEST + (LONGEST - turn .kept))
 
 fewer :
     (held r : Turn) → held .kept < LONGEST → Onward held r
@@ -108,12 +99,17 @@ fewer held r h o = go (o .moves)
     go (inl x) = omega (arith, x, h, o .small, o .number)
     go (inr x) = omega (arith, x .0, x .1, h, o .small)
 
-pub falls : (held r : Turn) → going (held .next) ≡ true → Ready held → (going (r .next) ≡ true → Onward held r) → left r < left held
-falls held r g b o = go (going (r .next)) refl
+pub falls : (held r : Turn) → held .next ≡ Goes → Ready held → (r .next ≡ Goes → Onward held r) → left r < left held
+falls held r g b o = go (r .next) refl
   where
     full : left held ≡ suc ((LARGEST - held .count) * LONGEST + (LONGEST - held .kept))
-    full = ap (λ (x : Bool). pick x (suc ((LARGEST - held .count) * LONGEST + (LONGEST - held .kept))) 0) g
+    full = ap (λ (next : Next). leftBy next ((LARGEST - held .count) * LONGEST + (LONGEST - held .kept))) g
 
-    go : (x : Bool) → going (r .next) ≡ x → pick x (suc ((LARGEST - r .count) * LONGEST + (LONGEST - r .kept))) 0 < left held
-    go true e = omega (arith, full, fewer held r (b .small) (o e))
-    go false e = omega (arith, full)
+    go : (next : Next) → r .next ≡ next → leftBy next ((LARGEST - r .count) * LONGEST + (LONGEST - r .kept)) < left held
+    go Goes e = omega (arith, full, fewer held r (b .small) (o e))
+    go Whole e = omega (arith, full)
+    go Cut e = omega (arith, full)
+    go Unknown e = omega (arith, full)
+    go Unread e = omega (arith, full)
+    go Unwritten e = omega (arith, full)
+    go Full e = omega (arith, full)

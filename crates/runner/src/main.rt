@@ -6,7 +6,8 @@ mod terminal;
 mod transfer;
 
 ghost use Rattle.reading.specs.Reading.{Room, Fits};
-ghost use Rattle.runner.specs.Loop.{Writes, Ended};
+ghost use Rattle.runner.specs.Loop.{Ended};
+ghost use Rattle.runner.specs.private.Transfers.{Writes};
 use reading::Got;
 use reading::Turn;
 use reading::inner::take_in;
@@ -24,7 +25,7 @@ fn turn(buf: &mut [u8], held: Turn, got: Got, out: &mut [u8]) -> Turn
 
 fn run(buf: &mut [u8], out: &mut [u8]) -> Turn
     requires { ⌜ Room (now buf) (now out) ⌝ }
-    ensures { λ r. ⌜ Ended r (now (buf .exit)) (now (out .exit)) ⌝ }
+    ensures { λ r. ⌜ Ended r (now (buf .exit)) ⌝ }
 {
     let mut held = Turn::first();
     let mut meter = Meter {

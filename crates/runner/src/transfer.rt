@@ -2,7 +2,7 @@
 ghost use Prim.Native.Nat.{_+_, _≤_, _<_};
 ghost use mathlib.Core.Path.{_≡_};
 ghost use lib.ListN.{length};
-ghost use Rattle.runner.specs.Loop.{Reads};
+ghost use Rattle.runner.specs.private.Transfers.{Reads};
 use libc::STDIN_FILENO;
 use libc::STDOUT_FILENO;
 use reading::Got;

@@ -1,21 +1,19 @@
 -- Laws of bytes that come one after the other: they are gathered until they make a record.
 -- Assumes nothing.
 use mathlib.Core.Path.{_≡_, refl, sym, ap, ap₂, subst, _∙_}
-use mathlib.Core.Bool.{Bool, true, false}
+use mathlib.Core.Bool.{true}
 use mathlib.Core.List.{List, [], _∷_, _++_}
 use Prim.Native.Nat.{ℕ, zero, suc, _+_, _-_, _≤_, _<_}
 use native.Mathlib.Omega.{arith}
 use lib.ListN.{length, take, drop, getD}
 use lib.Seq.{take-suc, take-length, length-take-le, getD-take, take-take, take-nil}
 use Rattle.records.specs.Kinds.{symbolsOf, bodyLength}
-use Rattle.records.specs.Recording.{pick, itemAt, bodyAt, past}
+use Rattle.records.specs.Recording.{itemAt, bodyAt, past}
 use Rattle.records.specs.declared.Item.{Item}
-use Rattle.records.specs.declared.Item.the-variants.{Whole, Unknown, Cut, End}
 use Rattle.records.proofs.Laws.{item-unknown, item-whole, item-cut}
 use Rattle.answers.specs.Answering.{answerOf}
 use Rattle.lines.specs.Lines.{recordLine, unknownLine}
-use Rattle.streaming.specs.Runner.{State, holding, judge, one, feed}
-use Rattle.streaming.specs.Pieces.{Waits}
+use Rattle.streaming.specs.Runner.{State, holding, start, judge, one, feed, closing, linesOf}
 
 pub feed-append : (state : State) (a b : List ℕ) → feed state (a ++ b) ≡ feed (feed state a) b
 unfolding feed
@@ -95,25 +93,6 @@ module _ (p text : List ℕ) (count : ℕ) where
       ∙ ap (λ (i : Item). judge i (take 1 p) text count) (item-unknown (take 1 p) 0 (omega arith) (ap symbolsOf (first 0) ∙ z))
       ∙ ap (λ (k : ℕ). over (text ++ unknownLine (count + 1) k) count) (first 0)
 
--- ---- what is held waits for more
-waits-nothing : Waits (itemAt [] 0)
-unfolding itemAt
-waits-nothing = tt
-
-pub held-waits : (state : State) → Waits (itemAt (state .held) 0) → (s : List ℕ) → Waits (itemAt (feed state s .held) 0)
-unfolding feed one
-held-waits state w [] = w
-held-waits state w (x ∷ s) = held-waits (one state x) (next (state .stopped) (itemAt (state .held ++ (x ∷ [])) 0) refl) s
-  where
-    next :
-        (t : Bool) (i : Item) → itemAt (state .held ++ (x ∷ [])) 0 ≡ i
-        → Waits (itemAt (pick t state (judge i (state .held ++ (x ∷ [])) (state .text) (state .count)) .held) 0)
-    next true i e = w
-    next false (Whole kind place) e = waits-nothing
-    next false (Unknown kind) e = waits-nothing
-    next false (Cut kind) e = subst Waits (sym e) tt
-    next false End e = subst Waits (sym e) tt
-
--- all that is held after any input
-pub stands-waits : (input : List ℕ) {rest text : List ℕ} {count : ℕ} → feed (holding [] [] 0) input ≡ holding rest text count → Waits (itemAt rest 0)
-stands-waits input e = subst (λ (l : List ℕ). Waits (itemAt l 0)) (ap (λ (z : State). z .held) e) (held-waits (holding [] [] 0) waits-nothing input)
+-- ---- all the lines
+pub lines-by : (input : List ℕ) {state : State} → feed start input ≡ state → linesOf input ≡ state .text ++ closing (state .held) (state .count)
+lines-by input e = ap (λ (z : State). z .text ++ closing (z .held) (z .count)) e

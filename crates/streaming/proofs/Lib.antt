@@ -1,7 +1,6 @@
-pub mod Turns
 pub mod Feeding
-pub mod Pieces
-pub mod Onward
-pub mod Closing
+pub mod Waiting
+pub mod Stepping
 pub mod Keeping
+pub mod Closing
 pub mod Examples

@@ -1,6 +1,3 @@
 pub mod Runner
-pub mod Steps
-pub mod Turns
-pub mod Pieces
-pub mod Closing
-pub mod Advancing
+pub mod Limits
+pub mod private

@@ -1,16 +1,113 @@
 // Shared among our own crates: these ask something of their caller.
+ghost use mathlib.Core.Bool.{true, false};
 ghost use mathlib.Core.Path.{_≡_};
 ghost use Prim.Native.Nat.{_+_, _-_, _*_, _≤_, _<_};
 ghost use lib.ListN.{length, take, drop};
-ghost use Rattle.lines.specs.Lines.{LINE as Lines·LINE};
-ghost use Rattle.lines.specs.Placing.{Put};
+ghost use Rattle.records.specs.Recording.{bodyAt, past};
+ghost use Rattle.answers.specs.Answering.{answerOf};
+ghost use Rattle.lines.specs.Lines.{LINE as Lines·LINE, recordLine};
+ghost use Rattle.lines.specs.private.Placing.{Put};
+ghost use Rattle.streaming.specs.Limits.{LARGEST};
 ghost use Rattle.streaming.specs.Runner.{short, closing};
-ghost use Rattle.streaming.specs.Steps.{LARGEST};
-ghost use Rattle.streaming.specs.Advancing.{Advances};
-use crate::step;
+ghost use Rattle.streaming.specs.private.Stepping.{Able, Picks, Steps};
+ghost use Rattle.streaming.specs.private.Advancing.{Advances};
+use answers::answer_to;
+use lines::LINE;
 use lines::inner::put_end;
+use lines::inner::put_record;
 use lines::inner::put_short;
+use lines::inner::put_unknown;
 use records::Item;
+
+// How many bytes were taken and written, how many whole records have been read since the input
+// began, and whether the reading has stopped.
+pub struct Stepped {
+    pub taken: usize,
+    pub written: usize,
+    pub count: u64,
+    pub stopped: bool,
+}
+
+// The line of the record of the kind that begins at the place.
+fn record_line(s: &[u8], kind: u8, place: usize, number: u64, out: &mut [u8], at: usize) -> usize
+    requires { ⌜ (past kind place ≤ length (now s)) × (at + Lines·LINE ≤ length (now out)) ⌝ }
+    ensures { λ r. ⌜ Put (recordLine number kind (answerOf kind (bodyAt (now (s .entry)) kind place))) at (now (out .entry)) (now (out .exit)) r
+        × (r ≤ at + Lines·LINE) ⌝ }
+{
+    let from = place + 1;
+    let end = from + records::START_BYTES + records::symbols(kind);
+    let answer = answer_to(kind, &s[from..end]);
+    put_record(number, kind, answer, out, at)
+}
+
+// Whether another item can be taken: there is room for a line, and a number for it.
+fn able(p: Stepped, room: usize) -> bool
+    requires { ⌜ p .written ≤ room ⌝ }
+    ensures { λ r. ⌜ (r ≡ true → Able p room) × (r ≡ false → Able p room → ⊥) ⌝ }
+{
+    if p.stopped {
+        return false;
+    }
+    if room - p.written < LINE {
+        return false;
+    }
+    p.count < u64::MAX
+}
+
+// Takes the item at the place that p has come to, if it can.
+fn pick_up(s: &[u8], p: Stepped, out: &mut [u8]) -> Stepped
+    requires { ⌜ p .written ≤ length (now out) ⌝ }
+    ensures { λ r. ⌜ Picks (now (s .entry)) p (now (out .entry)) r (now (out .exit)) ⌝ }
+{
+    if !able(p, out.len()) {
+        return p;
+    }
+    let at = p.taken;
+    let number = p.count + 1;
+    let found = records::take(s, at);
+    let item = found.item;
+    match item {
+        Item::Whole { kind, place } => Stepped {
+            taken: found.at,
+            written: record_line(s, kind, place, number, out, p.written),
+            count: number,
+            stopped: false,
+        },
+        Item::Unknown(kind) => Stepped {
+            taken: at + 1,
+            written: put_unknown(number, kind, out, p.written),
+            count: p.count,
+            stopped: true,
+        },
+        Item::Cut(_) => p,
+        Item::End => p,
+    }
+}
+
+// Takes whole records from the front of s, after `count` records, and writes their lines. It stops
+// taking where s has no whole record left, where out has no room for another line, and after a kind
+// that is not known.
+fn step(s: &[u8], count: u64, out: &mut [u8]) -> Stepped
+    ensures { λ r. ⌜ Steps (now (s .entry)) count r (now (out .exit)) ⌝ }
+{
+    let mut p = Stepped {
+        taken: 0,
+        written: 0,
+        count: count,
+        stopped: false,
+    };
+    // A record is longer than a byte, so there are never more of them than bytes.
+    let mut items = s.len();
+    while items > 0 {
+        let next = pick_up(s, p, out);
+        if next.taken == p.taken {
+            return next;
+        }
+        p = next;
+        items -= 1;
+    }
+    p
+}
 
 // What is kept at the buffer's front, how many bytes were written, how many whole records have been
 // read since the input began, and whether the reading has stopped.

@@ -2,7 +2,7 @@
 use Prim.Native.Nat.{_≤_}
 use lib.ListN.{length, take}
 use lib.Seq.{length-take-le}
-use Rattle.streaming.specs.Advancing.{Roomy}
+use Rattle.streaming.specs.private.Advancing.{Roomy}
 use Rattle.reading.proofs.Parts.{brings-goes, brings-full, brings-unknown}
 use native.Mathlib.Omega.{arith}
 use borrow.Author.Needs.{needs}
@@ -24,7 +24,7 @@ close-requires c κs =
     let b = taken .before .before .before .before .before in
     let a = taken .advance .ensures in
     let bytes = length-take-le (b .args .fill) (b .args .buf .now) (search needs) in
-    (a .numbered (search needs), omega (arith, a .most, bytes, taken .advance .kept .1 .1 .1 .0, b .pre .0, b .pre .1 .output))
+    (a .numbered (search needs), omega (arith, a .thrice-and-line, bytes, taken .advance .kept .1 .1 .1 .0, b .pre .0, b .pre .1 .output))
 
 same-length : tie.Need-same-length
 same-length c = search needs

@@ -3,7 +3,7 @@ use mathlib.Core.Path.{sym, ap, _∙_}
 use Prim.Native.Nat.{ℕ, _-_}
 use lib.ListN.{take}
 use lib.Seq.{length-take-le}
-use Rattle.streaming.proofs.Keeping.{taken-in, advanced}
+use Rattle.streaming.proofs.Keeping.{advanced}
 use native.Mathlib.Omega.{arith}
 use borrow.Author.Needs.{needs}
 use Rattle.streaming.proofs.inner.advance.Statement.{statement}
@@ -22,7 +22,7 @@ keep-requires : tie.Need-keep-requires
 keep-requires c κs =
     let a = c .before .before .before .before .before .before .before .before .args in
     let m = length-take-le (a .fill) (a .buf .now) (search needs) in
-    (omega (arith, taken-in (take (a .fill) (a .buf .now)) (a .count) (a .out .now) (c .before .before .before .step .ensures), m), search needs)
+    (omega (arith, c .before .before .before .step .ensures .reached .taken-in, m), search needs)
 
 same-length : tie.Need-same-length
 same-length c = search needs
@@ -38,7 +38,7 @@ returns c =
     let bytes = take (a .fill) (a .buf .now) in
     let m = length-take-le (a .fill) (a .buf .now) (search needs) in
     let from = stepped .step .result .taken in
-    advanced bytes (a .count) (a .out .now) (stepped .step .ensures) (kept .keep .last .0) (omega (arith, kept .keep .ensures .0, m))
+    advanced bytes (a .count) (stepped .step .ensures) (kept .keep .last .0) (omega (arith, kept .keep .ensures .0, m))
     (ap (λ (n : ℕ). take (n - from) (kept .keep .last .0)) m ∙ kept .keep .ensures .1)
     (stepped .step .kept .1 .1 .0)
 

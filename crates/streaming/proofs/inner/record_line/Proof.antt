@@ -1,10 +1,10 @@
 -- The answer to the body, and its line.
 use Prim.Native.Nat.{_+_, _-_}
-use Rattle.streaming.proofs.Turns.{line-of}
+use Rattle.streaming.proofs.Stepping.{line-of}
 use native.Mathlib.Omega.{arith}
 use borrow.Author.Needs.{needs}
-use Rattle.streaming.proofs.record_line.Statement.{statement}
-use Rattle.streaming.proofs.record_line.Tie as tie
+use Rattle.streaming.proofs.inner.record_line.Statement.{statement}
+use Rattle.streaming.proofs.inner.record_line.Tie as tie
 
 add-from : tie.Need-add-from
 add-from c = search needs
