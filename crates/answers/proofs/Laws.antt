@@ -9,10 +9,11 @@ use lib.ListN.{length, getD, take, drop, length-drop}
 use lib.Seq.{take-all}
 use Rattle.base.specs.Refusal.{SHORT, KIND}
 use Rattle.base.specs.declared.Received.{Received}
-use Rattle.records.specs.Kinds.{symbolsOf, START-BYTES}
+use Rattle.records.specs.Kinds.{symbolsOf}
 use Rattle.rm3014.specs.declared.Judged.{Judged}
 use Rattle.errorcontrol_aach.specs.Access.{decoded}
-use Rattle.answers.specs.Chains.{controlAnswer, slotAnswer, halfAnswer}
+use Rattle.errorcontrol_tp.specs.Speech.{supplied}
+use Rattle.answers.specs.Chains.{controlAnswer, speechAnswer}
 use Rattle.answers.specs.Answering.{startOf, ofReceived, ofJudged, chainOf, answerOf}
 use Rattle.answers.specs.declared.Answer.{Answer}
 use Rattle.answers.specs.declared.Answer.the-variants.{Refused}
@@ -28,11 +29,11 @@ module _ (kind start : ℕ) (air : List ℕ) where
   unfolding chainOf
   chain-access k e f = f ∙ ap ofJudged e ∙ simp (eq-eqb kind 5 k)
 
-  pub chain-slot : {j : Received} {a : Answer} → kind ≡ 6 → j ≡ slotAnswer start air → a ≡ ofReceived j → a ≡ chainOf kind start air
+  pub chain-slot : {j : Received} {a : Answer} → kind ≡ 6 → j ≡ speechAnswer 432 start air (take 432 air) → a ≡ ofReceived j → a ≡ chainOf kind start air
   unfolding chainOf
   chain-slot k e f = f ∙ ap ofReceived e ∙ simp (ne-eqb kind 5 (λ w. omega arith), eq-eqb kind 6 k)
 
-  pub chain-half : {j : Received} {a : Answer} → kind ≡ 7 → j ≡ halfAnswer start air → a ≡ ofReceived j → a ≡ chainOf kind start air
+  pub chain-half : {j : Received} {a : Answer} → kind ≡ 7 → j ≡ speechAnswer 216 start air (supplied air) → a ≡ ofReceived j → a ≡ chainOf kind start air
   unfolding chainOf
   chain-half k e f = f ∙ ap ofReceived e ∙ simp (ne-eqb kind 5 (λ w. omega arith), ne-eqb kind 6 (λ w. omega arith), eq-eqb kind 7 k)
 
@@ -47,16 +48,16 @@ module _ (kind : ℕ) (body : List ℕ) where
   unfolding answerOf
   answer-kind e z = simp (eq-eqb (symbolsOf kind) 0 (sym e ∙ z))
 
-  pub answer-short : {n : ℕ} → n ≡ symbolsOf kind → (n ≡ 0 → ⊥) → length body < START-BYTES → Refused SHORT ≡ answerOf kind body
+  pub answer-short : {n : ℕ} → n ≡ symbolsOf kind → (n ≡ 0 → ⊥) → length body < 4 → Refused SHORT ≡ answerOf kind body
   unfolding answerOf
-  answer-short e z h = simp (ne-eqb (symbolsOf kind) 0 (λ w. z (e ∙ w)), lt-ltb (length body) START-BYTES h)
+  answer-short e z h = simp (ne-eqb (symbolsOf kind) 0 (λ w. z (e ∙ w)), lt-ltb (length body) 4 h)
 
   pub answer-chain :
-      {n start : ℕ} {a : Answer} → n ≡ symbolsOf kind → (n ≡ 0 → ⊥) → START-BYTES ≤ length body → start ≡ startOf body
-      → a ≡ chainOf kind start (take (length body - START-BYTES) (drop START-BYTES body)) → a ≡ answerOf kind body
+      {n start : ℕ} {a : Answer} → n ≡ symbolsOf kind → (n ≡ 0 → ⊥) → 4 ≤ length body → start ≡ startOf body
+      → a ≡ chainOf kind start (take (length body - 4) (drop 4 body)) → a ≡ answerOf kind body
   unfolding answerOf
   answer-chain {n} {start} {a} e z h s f =
       f
-      ∙ ap (λ (air : List ℕ). chainOf kind start air) (take-all (length body - START-BYTES) (drop START-BYTES body) (omega (arith, length-drop START-BYTES body)))
-      ∙ ap (λ (m : ℕ). chainOf kind m (drop START-BYTES body)) s
-      ∙ simp (ne-eqb (symbolsOf kind) 0 (λ w. z (e ∙ w)), le-ltb (length body) START-BYTES h)
+      ∙ ap (λ (air : List ℕ). chainOf kind start air) (take-all (length body - 4) (drop 4 body) (omega (arith, length-drop 4 body)))
+      ∙ ap (λ (m : ℕ). chainOf kind m (drop 4 body)) s
+      ∙ simp (ne-eqb (symbolsOf kind) 0 (λ w. z (e ∙ w)), le-ltb (length body) 4 h)

@@ -3,16 +3,17 @@
 use mathlib.Core.List.{List}
 use Prim.Native.Nat.{ℕ, _+_, _*_}
 use lib.Dec.{ltb, eqb}
-use lib.ListN.{length, getD, drop}
+use lib.ListN.{length, getD, take, drop}
 use Rattle.base.specs.Refusal.{SHORT, KIND}
 use Rattle.base.specs.declared.Received.{Received}
 use Rattle.base.specs.declared.Received.the-variants as received
-use Rattle.records.specs.Kinds.{symbolsOf, START-BYTES}
+use Rattle.records.specs.Kinds.{symbolsOf}
 use Rattle.records.specs.Recording.{pick}
 use Rattle.rm3014.specs.declared.Judged.{Judged}
 use Rattle.rm3014.specs.declared.Judged.the-variants as judged
 use Rattle.errorcontrol_aach.specs.Access.{decoded}
-use Rattle.answers.specs.Chains.{controlAnswer, slotAnswer, halfAnswer}
+use Rattle.errorcontrol_tp.specs.Speech.{supplied}
+use Rattle.answers.specs.Chains.{controlAnswer, speechAnswer}
 use Rattle.answers.specs.declared.Answer.{Answer}
 use Rattle.answers.specs.declared.Answer.the-variants.{Good, Bad, Aach, Refused}
 
@@ -35,11 +36,11 @@ ofJudged (judged.Refused number) = Refused number
 unfoldable pub chainOf : ℕ → ℕ → List ℕ → Answer
 chainOf kind start air =
     pick (eqb kind 5) (ofJudged (decoded start air))
-    (pick (eqb kind 6) (ofReceived (slotAnswer start air))
-    (pick (eqb kind 7) (ofReceived (halfAnswer start air)) (ofReceived (controlAnswer kind start air))))
+    (pick (eqb kind 6) (ofReceived (speechAnswer 432 start air (take 432 air)))
+    (pick (eqb kind 7) (ofReceived (speechAnswer 216 start air (supplied air))) (ofReceived (controlAnswer kind start air))))
 
 -- the answer to a record of the kind with the body: KIND where the kind is not known, SHORT where the start is not there, and otherwise its chain's
 unfoldable pub answerOf : ℕ → List ℕ → Answer
 answerOf kind body =
     pick (eqb (symbolsOf kind) 0) (Refused KIND)
-    (pick (ltb (length body) START-BYTES) (Refused SHORT) (chainOf kind (startOf body) (drop START-BYTES body)))
+    (pick (ltb (length body) 4) (Refused SHORT) (chainOf kind (startOf body) (drop 4 body)))

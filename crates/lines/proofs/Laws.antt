@@ -11,7 +11,9 @@ use lib.Dec.{ltb}
 use lib.ListN.{length, length-append}
 use Rattle.rm3014.specs.declared.Verdict.{Verdict}
 use Rattle.answers.specs.declared.Answer.{Answer}
-use Rattle.lines.specs.Lines.{SAID, counted, judged, heading, line, verdictText, answerText}
+use Rattle.answers.specs.declared.Answer.the-variants.{Aach}
+use Rattle.lines.specs.Lines.{counted, judged, line, answerText}
+use Rattle.lines.specs.private.Widths.{SAID, heading}
 use Rattle.lines.specs.private.Placing.{Put}
 use Rattle.lines.proofs.Placing.{put-none, put-then}
 use Rattle.lines.specs.Text.{sign, hex, decimalWithin, decimal}
@@ -113,7 +115,7 @@ unfolding heading
 heading-length number kind = simp length-append (omega (arith, hex-length 2 kind))
 
 pub line-length : (number kind : ℕ) (said : List ℕ) → length (line number kind said) ≡ length (heading number kind) + length said + 1
-unfolding line
+unfolding line heading
 line-length number kind said = simp length-append
 
 -- a number of 64 bits has at most 20 digits
@@ -129,10 +131,10 @@ judged-most word place contents h k =
 
 -- ---- what is said of a record, by its case
 pub verdict-put :
-    {v w : Verdict} {at next : ℕ} {old new : List ℕ} → v ≡ w → Put (verdictText w) at old new next → length (verdictText w) ≤ SAID
-    → Put (verdictText v) at old new next × (next ≤ at + SAID)
+    {v w : Verdict} {at next : ℕ} {old new : List ℕ} → v ≡ w → Put (answerText (Aach w)) at old new next → length (answerText (Aach w)) ≤ SAID
+    → Put (answerText (Aach v)) at old new next × (next ≤ at + SAID)
 verdict-put {v} {w} {at} {next} {old} {new} e p h =
-    (subst (λ (u : Verdict). Put (verdictText u) at old new next) (sym e) p, omega (arith, p .ends))
+    (subst (λ (u : Verdict). Put (answerText (Aach u)) at old new next) (sym e) p, omega (arith, p .ends))
 
 pub answer-put :
     {a b : Answer} {at next : ℕ} {old new : List ℕ} → a ≡ b → Put (answerText b) at old new next → next ≤ at + SAID

@@ -5,8 +5,10 @@ ghost use Prim.Native.Nat.{_+_, _≤_, _<_};
 ghost use mathlib.Core.Path.{_≡_};
 ghost use lib.ListN.{length};
 ghost use Rattle.lines.specs.private.Placing.{Put};
-ghost use Rattle.lines.specs.Text.{sign, decimal, hex};
-ghost use Rattle.lines.specs.Lines.{LINE, SAID, counted, judged, verdictText, answerText, heading, line, recordLine, unknownLine, shortLine, endLine};
+ghost use Rattle.lines.specs.private.Widths.{LINE, SAID, heading};
+ghost use Rattle.lines.specs.Text.{ascii, sign, decimal, hex};
+ghost use Rattle.lines.specs.Lines.{counted, judged, answerText, line, endLine};
+ghost use Rattle.answers.specs.declared.Answer.the-variants.{Aach};
 use answers::Answer;
 use rm3014::Verdict;
 
@@ -84,7 +86,7 @@ fn put_judged(word: &[u8], place: u64, contents: u64, out: &mut [u8], at: usize)
 
 fn put_verdict(verdict: Verdict, out: &mut [u8], at: usize) -> usize
     requires { ⌜ at + SAID ≤ length (now out) ⌝ }
-    ensures { λ r. ⌜ Put (verdictText verdict) at (now (out .entry)) (now (out .exit)) r × (r ≤ at + SAID) ⌝ }
+    ensures { λ r. ⌜ Put (answerText (Aach verdict)) at (now (out .entry)) (now (out .exit)) r × (r ≤ at + SAID) ⌝ }
 {
     match verdict {
         Verdict::Clean(contents) => put_judged(b"clean", 0, contents as u64, out, at),
@@ -120,7 +122,7 @@ fn put_heading(number: u64, kind: u8, out: &mut [u8], at: usize) -> usize
 // The line of a record.
 pub fn put_record(number: u64, kind: u8, answer: Answer, out: &mut [u8], at: usize) -> usize
     requires { ⌜ at + LINE ≤ length (now out) ⌝ }
-    ensures { λ r. ⌜ Put (recordLine number kind answer) at (now (out .entry)) (now (out .exit)) r × (r ≤ at + LINE) ⌝ }
+    ensures { λ r. ⌜ Put (line number kind (answerText answer)) at (now (out .entry)) (now (out .exit)) r × (r ≤ at + LINE) ⌝ }
 {
     let said = put_heading(number, kind, out, at);
     let next = put_answer(answer, out, said);
@@ -139,7 +141,7 @@ fn put_line(number: u64, kind: u8, word: &[u8], out: &mut [u8], at: usize) -> us
 // The line of a kind that is not known.
 pub fn put_unknown(number: u64, kind: u8, out: &mut [u8], at: usize) -> usize
     requires { ⌜ at + LINE ≤ length (now out) ⌝ }
-    ensures { λ r. ⌜ Put (unknownLine number kind) at (now (out .entry)) (now (out .exit)) r × (r ≤ at + LINE) ⌝ }
+    ensures { λ r. ⌜ Put (line number kind (ascii "unknown")) at (now (out .entry)) (now (out .exit)) r × (r ≤ at + LINE) ⌝ }
 {
     put_line(number, kind, b"unknown", out, at)
 }
@@ -147,7 +149,7 @@ pub fn put_unknown(number: u64, kind: u8, out: &mut [u8], at: usize) -> usize
 // The line of a record whose body is cut.
 pub fn put_short(number: u64, kind: u8, out: &mut [u8], at: usize) -> usize
     requires { ⌜ at + LINE ≤ length (now out) ⌝ }
-    ensures { λ r. ⌜ Put (shortLine number kind) at (now (out .entry)) (now (out .exit)) r × (r ≤ at + LINE) ⌝ }
+    ensures { λ r. ⌜ Put (line number kind (ascii "short")) at (now (out .entry)) (now (out .exit)) r × (r ≤ at + LINE) ⌝ }
 {
     put_line(number, kind, b"short", out, at)
 }

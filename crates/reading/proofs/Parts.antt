@@ -2,10 +2,14 @@
 -- Assumes nothing.
 use mathlib.Core.Bool.{Bool, true, false}
 use mathlib.Core.Path.{_≡_, refl, sym, ap, _∙_}
-use mathlib.Core.List.{List, [], _∷_, _++_, append-assoc}
+use mathlib.Core.Logic.{inl, inr}
+use mathlib.Core.List.{List, [], _++_, append-assoc}
 use Prim.Native.Nat.{ℕ, _+_, _≤_, _<_}
 use native.Mathlib.Omega.{arith}
+use borrow.Author.Tests.{eq-eqb, ne-eqb}
+use lib.Dec.{eqb}
 use lib.ListN.{length, take}
+use Rattle.records.specs.Recording.{pick}
 use Rattle.lines.specs.private.Placing.{Put}
 use Rattle.lines.proofs.Placing.{put-front}
 use Rattle.streaming.specs.Runner.{State, holding, start, feed, closing}
@@ -16,20 +20,18 @@ use Rattle.streaming.proofs.Feeding.{feed-append, over, over-stays, lines-by}
 use Rattle.streaming.proofs.Waiting.{waits-held}
 use Rattle.reading.specs.declared.Next.{Next}
 use Rattle.reading.specs.declared.Next.the-variants.{Goes, Whole, Cut, Unknown, Full}
-use Rattle.reading.specs.Reading.{Stands, heldEnding, endingOf, Ends}
-use Rattle.reading.specs.Parts.{Brings, Finishes}
+use Rattle.reading.specs.Reading.{Stands, endingOf, Ends}
+use Rattle.reading.specs.private.Parts.{Brings, Finishes}
 
 -- ---- the input has ended
-whole-held : (l : List ℕ) → length l ≡ 0 → heldEnding l ≡ Whole
-whole-held [] h = refl
-whole-held (x ∷ l) h = absurd (omega (arith, h))
+whole-held : (l : List ℕ) → length l ≡ 0 → pick (eqb (length l) 0) Whole Cut ≡ Whole
+whole-held l h = simp (eq-eqb (length l) 0 h)
 
-cut-held : (l : List ℕ) → 0 < length l → heldEnding l ≡ Cut
-cut-held [] h = absurd (omega arith)
-cut-held (x ∷ l) h = refl
+cut-held : (l : List ℕ) → 0 < length l → pick (eqb (length l) 0) Whole Cut ≡ Cut
+cut-held l h = simp (ne-eqb (length l) 0 (λ z. omega arith))
 
 module _ (rest : List ℕ) (count : ℕ) {written : ℕ} {old out : List ℕ} (p : Put (closing rest count) 0 old out written) (fits : written ≤ length out) where
-  ends : (input text : List ℕ) {next : Next} → Stands input rest text count → heldEnding rest ≡ next → Ends next input (text ++ take written out)
+  ends : (input text : List ℕ) {next : Next} → Stands input rest text count → pick (eqb (length rest) 0) Whole Cut ≡ next → Ends next input (text ++ take written out)
   ends input text e h = record {
     how = ap endingOf e ∙ h;
     lines = lines-by input e ∙ ap (λ (l : List ℕ). text ++ l) (sym (put-front (omega arith) p));
@@ -38,7 +40,7 @@ module _ (rest : List ℕ) (count : ℕ) {written : ℕ} {old out : List ℕ} (p
   pub finishes-whole : length rest ≡ 0 → Finishes rest count (record { kept = 0; written = written; count = count; next = Whole }) out
   finishes-whole h = record {
     says = λ input text kept e. ends input text e (whole-held rest h);
-    follows = λ got f n. (f, n);
+    how = inl refl;
     fits = fits;
     over = λ g. let z : _≡_ {A = ℕ} 0 1 = cc in absurd (omega arith);
   }
@@ -46,7 +48,7 @@ module _ (rest : List ℕ) (count : ℕ) {written : ℕ} {old out : List ℕ} (p
   pub finishes-cut : 0 < length rest → Finishes rest count (record { kept = 0; written = written; count = count; next = Cut }) out
   finishes-cut h = record {
     says = λ input text kept e. ends input text e (cut-held rest h);
-    follows = λ got f n. (f, n);
+    how = inr refl;
     fits = fits;
     over = λ g. let z : _≡_ {A = ℕ} 0 1 = cc in absurd (omega arith);
   }
@@ -66,9 +68,9 @@ module _ (bytes : List ℕ) (count : ℕ) (old : List ℕ) {p : Advanced} {buf o
       → Brings bytes count (record { kept = p .kept; written = p .written; count = p .count; next = Goes }) buf out
   brings-goes z m fits = record {
     says = λ input text e. came input text z e ∙ waits-held (take (p .kept) buf) (text ++ take (p .written) out) (p .count) (a .waits z m);
-    follows = λ got f n. (f, n);
+    how = inl refl;
     fits = fits;
-    small = λ g. (a .less z m, m .number);
+    less = λ g. (a .less z m, m .number);
     moves = λ g. a .counts z;
   }
 
@@ -77,9 +79,9 @@ module _ (bytes : List ℕ) (count : ℕ) (old : List ℕ) {p : Advanced} {buf o
       → Brings bytes count (record { kept = 0; written = p .written; count = p .count; next = Full }) buf out
   brings-full z m fits = record {
     says = λ input text e. (m, take (p .kept) buf, came input text z e);
-    follows = λ got f n. (f, n);
+    how = inr (inr refl);
     fits = fits;
-    small = λ g. let z : _≡_ {A = ℕ} 0 1 = cc in absurd (omega arith);
+    less = λ g. let z : _≡_ {A = ℕ} 0 1 = cc in absurd (omega arith);
     moves = λ g. let z : _≡_ {A = ℕ} 0 1 = cc in absurd (omega arith);
   }
 
@@ -88,9 +90,9 @@ module _ (bytes : List ℕ) (count : ℕ) (old : List ℕ) {p : Advanced} {buf o
       → Brings bytes count (record { kept = 0; written = written; count = p .count; next = Unknown }) buf last
   brings-unknown z {written} {last} inside put fits = record {
     says = λ input text e later. ends-unknown input text e later;
-    follows = λ got f n. (f, n);
+    how = inr (inl refl);
     fits = fits;
-    small = λ g. let z : _≡_ {A = ℕ} 0 1 = cc in absurd (omega arith);
+    less = λ g. let z : _≡_ {A = ℕ} 0 1 = cc in absurd (omega arith);
     moves = λ g. let z : _≡_ {A = ℕ} 0 1 = cc in absurd (omega arith);
   }
     where

@@ -1,7 +1,7 @@
 -- Laws of a whole turn.
 -- Assumes nothing.
 use mathlib.Core.Bool.{Bool, true, false}
-use mathlib.Core.Path.{_≡_, sym, ap, subst, _∙_}
+use mathlib.Core.Path.{_≡_, refl, sym, ap, subst, _∙_}
 use mathlib.Core.Logic.{_⊎_, inl, inr}
 use mathlib.Core.List.{List, [], _++_, append-nil}
 use Prim.Native.Nat.{ℕ, _+_, _≤_, _<_}
@@ -10,13 +10,14 @@ use lib.ListN.{length, take, drop}
 use lib.Seq.{take-add, length-take-le}
 use Rattle.records.specs.Recording.{pick}
 use Rattle.streaming.specs.Runner.{State, holding, start, feed}
+use Rattle.streaming.proofs.Stepping.{no-true}
 use Rattle.streaming.proofs.Feeding.{feed-append}
 use Rattle.streaming.proofs.Waiting.{waits-held, stands-waits}
 use Rattle.reading.specs.declared.Next.the-variants.{Unread}
 use Rattle.reading.specs.declared.Got.{Got}
 use Rattle.reading.specs.declared.Turn.{Turn}
 use Rattle.reading.specs.Reading.{Stands, Says, brought, Takes}
-use Rattle.reading.specs.Parts.{Brings, Finishes}
+use Rattle.reading.specs.private.Parts.{Brings, Finishes}
 
 -- more bytes come
 joins :
@@ -45,7 +46,9 @@ module _ (held : Turn) (got : Got) (from : List ℕ) where
     says = λ input text e.
         ap (λ (l : List ℕ). feed start l) (same input (brought-none f)) ∙ e
         ∙ ap (λ (t : List ℕ). holding (take (held .kept) from) t (held .count)) (sym (append-nil text));
-    follows = f;
+    failed = λ e. refl;
+    ended = λ e. no-true (sym e ∙ f);
+    came = λ e. no-true (sym e ∙ f);
     fits = omega arith;
     onward = λ g. let z : _≡_ {A = ℕ} 0 1 = cc in absurd (omega arith);
   }
@@ -58,7 +61,9 @@ module _ (held : Turn) (got : Got) (from : List ℕ) where
         says = λ input text s.
             subst (λ (l : List ℕ). Says (r .next) l (take (r .kept) buf) (text ++ take (r .written) out) (r .count)) (sym (same input none))
             (e .says input text (take (r .kept) buf) s);
-        follows = e .follows got f n;
+        failed = λ z. no-true (sym f ∙ z);
+        ended = λ z m. e .how;
+        came = λ z m. absurd (omega arith);
         fits = e .fits;
         onward = λ g. absurd (e .over g);
       }
@@ -74,9 +79,11 @@ module _ (held : Turn) (got : Got) (from : List ℕ) where
         says = λ input text s.
             b .says (input ++ brought held got from) text
             (joins input (brought held got from) s ∙ ap (λ (l : List ℕ). feed (holding [] text (held .count)) l) whole);
-        follows = b .follows got f n;
+        failed = λ z. no-true (sym f ∙ z);
+        ended = λ z m. absurd (omega arith);
+        came = λ z m. b .how;
         fits = b .fits;
-        onward = λ g. record { small = b .small g .0; number = b .small g .1; moves = moves (b .moves g) };
+        onward = λ g. record { less = b .less g .0; number = b .less g .1; moves = moves (b .moves g) };
       }
     where
       moves :

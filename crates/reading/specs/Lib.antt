@@ -2,4 +2,4 @@ pub mod Answers
 pub mod Turns
 pub mod Reading
 pub mod Pieces
-pub mod Parts
+pub mod private

@@ -3,11 +3,11 @@
 use mathlib.Core.Bool.{true, false}
 use mathlib.Core.Path.{_≡_}
 use mathlib.Core.Logic.{_⊎_}
-use mathlib.Core.List.{List, [], _∷_, _++_}
-use Prim.Native.Nat.{ℕ, _+_, _*_, _≤_, _<_}
+use mathlib.Core.List.{List, [], _++_}
+use Prim.Native.Nat.{ℕ, _+_, _≤_, _<_}
+use lib.Dec.{eqb}
 use lib.ListN.{length, take, drop}
 use Rattle.records.specs.Recording.{pick}
-use Rattle.lines.specs.Lines.{LINE}
 use Rattle.streaming.specs.Runner.{State, holding, start, feed, linesOf}
 use Rattle.streaming.specs.Limits.{LARGEST, LONGEST}
 use Rattle.reading.specs.declared.Next.{Next}
@@ -15,30 +15,14 @@ use Rattle.reading.specs.declared.Next.the-variants.{Goes, Whole, Cut, U
 use Rattle.reading.specs.declared.Got.{Got}
 use Rattle.reading.specs.declared.Turn.{Turn}
 
--- ---- what a turn asks
--- the buffer has room for the longest record, and the target for the lines of all that the buffer can hold, and the last lines
-pub record Room (buf out : List ℕ) : Type 0 where
-  pub input : LONGEST ≤ length buf
-  pub output : 3 * length buf + 3 * LINE ≤ length out
-
--- the bytes stand in the buffer behind what was kept, and a number is left for a line
-pub record Fits (held : Turn) (got : Got) (buf out : List ℕ) : Type 0 where
-  pub inside : held .kept + got .bytes ≤ length buf
-  pub number : held .count < LARGEST
-  pub room : Room buf out
-
 -- ---- what a turn says of all the input so far, what it keeps of it, all the text so far, and the count
 -- the definition has taken in the input: it holds the rest, and has written the text and counted so many records
 abbrev pub Stands : List ℕ → List ℕ → List ℕ → ℕ → Type 0
 Stands input rest text count = feed start input ≡ holding rest text count
 
-abbrev pub heldEnding : List ℕ → Next
-heldEnding [] = Whole
-heldEnding (byte ∷ bytes) = Cut
-
--- how an input ends: a kind that is not known has stopped the reading, or what is held is a cut record, or nothing is held
+-- how an input ends: a kind that is not known has stopped the reading, or nothing is held, or what is held is a cut record
 abbrev pub endingOf : State → Next
-endingOf state = pick (state .stopped) Unknown (heldEnding (state .held))
+endingOf state = pick (state .stopped) Unknown (pick (eqb (length (state .held)) 0) Whole Cut)
 
 -- the input ends so, and the text is its lines
 pub record Ends (next : Next) (input text : List ℕ) : Type 0 where
@@ -56,16 +40,6 @@ Says Unwritten input rest text count = Unit {0}
 Says Full input rest text count = (LARGEST ≤ count) × (left : List ℕ) × (feed start input ≡ feed (holding [] text count) left)
 
 -- ---- what a turn does
--- which turn may follow which read: one that failed, one that brought nothing, one that brought something
-abbrev pub Follows : Next → Got → Type 0
-Follows Goes got = (got .failed ≡ false) × (0 < got .bytes)
-Follows Whole got = (got .failed ≡ false) × (got .bytes ≡ 0)
-Follows Cut got = (got .failed ≡ false) × (got .bytes ≡ 0)
-Follows Unknown got = (got .failed ≡ false) × (0 < got .bytes)
-Follows Unread got = got .failed ≡ true
-Follows Unwritten got = ⊥
-Follows Full got = (got .failed ≡ false) × (0 < got .bytes)
-
 -- the bytes that a read brought to the buffer, and none if it failed
 abbrev pub brought : Turn → Got → List ℕ → List ℕ
 brought held got buf = pick (got .failed) [] (take (got .bytes) (drop (held .kept) buf))
@@ -73,7 +47,7 @@ brought held got buf = pick (got .failed) [] (take (got .bytes) (drop (held .kep
 -- another turn can follow: what is kept is less than a record, a number is left,
 -- and a record was counted or more is kept than before, so that turns come to an end
 pub record Onward (held r : Turn) : Type 0 where
-  pub small : r .kept < LONGEST
+  pub less : r .kept < LONGEST
   pub number : r .count < LARGEST
   pub moves : (held .count < r .count) ⊎ ((r .count ≡ held .count) × (held .kept < r .kept))
 
@@ -82,6 +56,9 @@ pub record Takes (held : Turn) (got : Got) (from : List ℕ) (r : Turn) (buf out
   pub says :
       (input text : List ℕ) → Stands input (take (held .kept) from) text (held .count)
       → Says (r .next) (input ++ brought held got from) (take (r .kept) buf) (text ++ take (r .written) out) (r .count)
-  pub follows : Follows (r .next) got
+  -- a read that failed, one that brought nothing, one that brought something
+  pub failed : got .failed ≡ true → r .next ≡ Unread
+  pub ended : got .failed ≡ false → got .bytes ≡ 0 → (r .next ≡ Whole) ⊎ (r .next ≡ Cut)
+  pub came : got .failed ≡ false → 0 < got .bytes → (r .next ≡ Goes) ⊎ ((r .next ≡ Unknown) ⊎ (r .next ≡ Full))
   pub fits : r .written ≤ length out
   pub onward : r .next ≡ Goes → Onward held r

@@ -7,21 +7,25 @@ use Prim.Native.Nat.{ℕ, zero, suc, _+_, _-_, _<_, _≤_}
 use native.Mathlib.Omega.{arith}
 use borrow.Author.Tests.{ltb-true, ltb-false, leb-true, leb-false, eqb-true, eqb-false, lt-ltb, le-ltb, le-leb, lt-leb, eq-eqb, ne-eqb}
 use lib.Dec.{ltb, leb, eqb}
-use lib.ListN.{length, getD, List·getD-eq-default}
-use Rattle.records.specs.Kinds.{symbolCounts, symbolsOf, START-BYTES}
+use lib.ListN.{length, getD}
+use Rattle.records.specs.Kinds.{symbolsOf}
 use Rattle.records.specs.Recording.{pick, past, itemAt, stepAt, after}
 use Rattle.records.specs.declared.Step.{Step}
 use Rattle.records.specs.declared.Item.{Item}
 use Rattle.records.specs.declared.Item.the-variants.{Whole, Unknown, Cut, End}
 
 -- ---- kinds
-pub symbols-table : (kind : ℕ) → getD symbolCounts kind 0 ≡ symbolsOf kind
-unfolding symbolsOf
-symbols-table kind = refl
-
 pub symbols-none : (kind : ℕ) → 7 < kind → 0 ≡ symbolsOf kind
 unfolding symbolsOf
-symbols-none kind h = sym (List·getD-eq-default symbolCounts 0 h)
+symbols-none zero h = absurd (omega arith)
+symbols-none (suc zero) h = absurd (omega arith)
+symbols-none (suc (suc zero)) h = absurd (omega arith)
+symbols-none (suc (suc (suc zero))) h = absurd (omega arith)
+symbols-none (suc (suc (suc (suc zero)))) h = absurd (omega arith)
+symbols-none (suc (suc (suc (suc (suc zero))))) h = absurd (omega arith)
+symbols-none (suc (suc (suc (suc (suc (suc zero)))))) h = absurd (omega arith)
+symbols-none (suc (suc (suc (suc (suc (suc (suc zero))))))) h = absurd (omega arith)
+symbols-none (suc (suc (suc (suc (suc (suc (suc (suc kind)))))))) h = refl
 
 -- a record has at most 432 symbols
 pub symbols-most : (kind : ℕ) → symbolsOf kind ≤ 432
@@ -74,10 +78,10 @@ pub step-of : (s : List ℕ) (at : ℕ) {i : Item} → itemAt s at ≡ i → _�
 step-of s at e = ap (λ (j : Item). record { item = j; at = after j at }) (sym e)
 
 pub step-whole :
-    (s : List ℕ) (at : ℕ) {n : ℕ} → at < length s → n ≡ symbolsOf (getD s at 0) → (n ≡ 0 → ⊥) → START-BYTES + n < length s - at
-    → _≡_ {A = Step} (record { item = Whole (getD s at 0) at; at = at + 1 + (START-BYTES + n) }) (stepAt s at)
+    (s : List ℕ) (at : ℕ) {n : ℕ} → at < length s → n ≡ symbolsOf (getD s at 0) → (n ≡ 0 → ⊥) → 4 + n < length s - at
+    → _≡_ {A = Step} (record { item = Whole (getD s at 0) at; at = at + 1 + (4 + n) }) (stepAt s at)
 step-whole s at {n} h e z k =
-    ap (λ (m : ℕ). record { item = Whole (getD s at 0) at; at = at + 1 + (START-BYTES + m) }) e
+    ap (λ (m : ℕ). record { item = Whole (getD s at 0) at; at = at + 1 + (4 + m) }) e
     ∙ step-of s at (item-whole s at h (λ w. z (omega arith)) (omega arith))
 
 -- ---- and back: what is known of a place by its item

@@ -42,11 +42,11 @@ reads-behind held {fill} {got} {buf} {new} answer k h e t = record {
 -- ---- the invariant
 -- where a turn goes on, there is room for a read and a number for a line
 pub record Ready (turn : Turn) : Type 0 where
-  pub small : turn .kept < LONGEST
+  pub less : turn .kept < LONGEST
   pub number : turn .count < LARGEST
 
 pub ready-first : {t : Turn} → t ≡ first → Ready t
-ready-first e = record { small = omega (arith, ap (λ (x : Turn). x .kept) e); number = omega (arith, ap (λ (x : Turn). x .count) e) }
+ready-first e = record { less = omega (arith, ap (λ (x : Turn). x .kept) e); number = omega (arith, ap (λ (x : Turn). x .count) e) }
 
 pub story-first : {t : Turn} (buf : List ℕ) → t ≡ first → Story t buf
 story-first buf e = subst (λ (x : Turn). Story x buf) (sym e) (record { input = []; text = []; ran = begins buf })
@@ -73,7 +73,7 @@ module _ (held : Turn) {got : Got} {from : List ℕ} {r : Turn} {buf out : List 
       go false e = let n : _≡_ {A = ℕ} 0 1 = cc in absurd (omega arith)
 
   pub ready-on : r .next ≡ Goes → Ready r
-  ready-on z = record { small = onward z .small; number = onward z .number }
+  ready-on z = record { less = onward z .less; number = onward z .number }
 
 -- ---- the measure: each turn that goes on counts a record or keeps more
 abbrev leftBy : Next → ℕ → ℕ
@@ -96,8 +96,8 @@ fewer held r h o = go (o .moves)
     go :
         (held .count < r .count) ⊎ ((r .count ≡ held .count) × (held .kept < r .kept))
         → (LARGEST - r .count) * LONGEST + (LONGEST - r .kept) < (LARGEST - held .count) * LONGEST + (LONGEST - held .kept)
-    go (inl x) = omega (arith, x, h, o .small, o .number)
-    go (inr x) = omega (arith, x .0, x .1, h, o .small)
+    go (inl x) = omega (arith, x, h, o .less, o .number)
+    go (inr x) = omega (arith, x .0, x .1, h, o .less)
 
 pub falls : (held r : Turn) → held .next ≡ Goes → Ready held → (r .next ≡ Goes → Onward held r) → left r < left held
 falls held r g b o = go (r .next) refl
@@ -106,7 +106,7 @@ falls held r g b o = go (r .next) refl
     full = ap (λ (next : Next). leftBy next ((LARGEST - held .count) * LONGEST + (LONGEST - held .kept))) g
 
     go : (next : Next) → r .next ≡ next → leftBy next ((LARGEST - r .count) * LONGEST + (LONGEST - r .kept)) < left held
-    go Goes e = omega (arith, full, fewer held r (b .small) (o e))
+    go Goes e = omega (arith, full, fewer held r (b .less) (o e))
     go Whole e = omega (arith, full)
     go Cut e = omega (arith, full)
     go Unknown e = omega (arith, full)

@@ -12,7 +12,8 @@ use Rattle.records.specs.Recording.{itemAt, bodyAt, past}
 use Rattle.records.specs.declared.Item.{Item}
 use Rattle.records.proofs.Laws.{item-unknown, item-whole, item-cut}
 use Rattle.answers.specs.Answering.{answerOf}
-use Rattle.lines.specs.Lines.{recordLine, unknownLine}
+use Rattle.lines.specs.Text.{ascii}
+use Rattle.lines.specs.Lines.{answerText, line}
 use Rattle.streaming.specs.Runner.{State, holding, start, judge, one, feed, closing, linesOf}
 
 pub feed-append : (state : State) (a b : List ℕ) → feed state (a ++ b) ≡ feed (feed state a) b
@@ -60,7 +61,7 @@ module _ (p text : List ℕ) (count : ℕ) where
   pub gathers-whole :
       (symbolsOf (getD p 0 0) ≡ 0 → ⊥) → past (getD p 0 0) 0 ≤ length p
       → feed (holding [] text count) (take (past (getD p 0 0) 0) p)
-      ≡ holding [] (text ++ recordLine (count + 1) (getD p 0 0) (answerOf (getD p 0 0) (bodyAt p (getD p 0 0) 0))) (count + 1)
+      ≡ holding [] (text ++ line (count + 1) (getD p 0 0) (answerText (answerOf (getD p 0 0) (bodyAt p (getD p 0 0) 0)))) (count + 1)
   gathers-whole known h =
       let n : ℕ = bodyLength (getD p 0 0) in
       let e : past (getD p 0 0) 0 ≡ suc n = omega arith in
@@ -70,7 +71,7 @@ module _ (p text : List ℕ) (count : ℕ) where
       ∙ grow n (omega arith) (gathers known n (omega arith) (omega arith))
       ∙ ap (λ (i : Item). judge i (take (suc n) p) text count)
       (item-whole (take (suc n) p) 0 (omega arith) (λ w. known (sym same ∙ w)) (omega arith))
-      ∙ ap₂ (λ (k : ℕ) (body : List ℕ). holding [] (text ++ recordLine (count + 1) k (answerOf k body)) (count + 1)) (first n)
+      ∙ ap₂ (λ (k : ℕ) (body : List ℕ). holding [] (text ++ line (count + 1) k (answerText (answerOf k body))) (count + 1)) (first n)
       (body n refl)
     where
       body : (n : ℕ) → n ≡ bodyLength (getD p 0 0) → bodyAt (take (suc n) p) (getD (take (suc n) p) 0 0) 0 ≡ bodyAt p (getD p 0 0) 0
@@ -85,13 +86,13 @@ module _ (p text : List ℕ) (count : ℕ) where
 
   pub gathers-unknown :
       0 < length p → symbolsOf (getD p 0 0) ≡ 0
-      → feed (holding [] text count) (take 1 p) ≡ over (text ++ unknownLine (count + 1) (getD p 0 0)) count
+      → feed (holding [] text count) (take 1 p) ≡ over (text ++ line (count + 1) (getD p 0 0) (ascii "unknown")) count
   unfolding feed
   gathers-unknown h z =
       let long : length (take 1 p) ≡ 1 = length-take-le 1 p h in
       grow 0 h refl
       ∙ ap (λ (i : Item). judge i (take 1 p) text count) (item-unknown (take 1 p) 0 (omega arith) (ap symbolsOf (first 0) ∙ z))
-      ∙ ap (λ (k : ℕ). over (text ++ unknownLine (count + 1) k) count) (first 0)
+      ∙ ap (λ (k : ℕ). over (text ++ line (count + 1) k (ascii "unknown")) count) (first 0)
 
 -- ---- all the lines
 pub lines-by : (input : List ℕ) {state : State} → feed start input ≡ state → linesOf input ≡ state .text ++ closing (state .held) (state .count)

@@ -16,11 +16,13 @@ use Rattle.records.specs.declared.Step.{Step}
 use Rattle.records.proofs.Laws.{symbols-least, item-end, is-whole, is-unknown}
 use Rattle.answers.specs.declared.Answer.{Answer}
 use Rattle.answers.specs.Answering.{answerOf}
-use Rattle.lines.specs.Lines.{LINE, recordLine, unknownLine}
+use Rattle.lines.specs.Text.{ascii}
+use Rattle.lines.specs.Lines.{answerText, line}
+use Rattle.lines.specs.private.Widths.{LINE}
 use Rattle.lines.specs.private.Placing.{Put}
 use Rattle.lines.proofs.Placing.{put-front}
 use Rattle.streaming.specs.Runner.{State, holding, feed}
-use Rattle.streaming.specs.private.Stepping.{Waits, cameTo, Able, Reached, Settled, Picks, Steps}
+use Rattle.streaming.specs.private.Stepping.{Waits, cameTo, Able, Reached, Settled, ItemTaken, Steps}
 use Rattle.streaming.specs.declared.inner.Stepped.{Stepped}
 use Rattle.streaming.proofs.Feeding.{feed-append, over, gathers-whole, gathers-unknown}
 use Rattle.streaming.proofs.Waiting.{head}
@@ -38,18 +40,18 @@ found-at s at f g = ap (λ (t : Step). t .at) f ∙ ap (λ (i : Item). after i a
 -- a record's line, by the part of the bytes that its answer was made from
 pub line-of :
     (number kind place m : ℕ) (s : List ℕ) {a : Answer} {at next : ℕ} {old new : List ℕ} → a ≡ answerOf kind (take m (drop (place + 1) s))
-    → m ≡ bodyLength kind → Put (recordLine number kind a) at old new next
-    → Put (recordLine number kind (answerOf kind (bodyAt s kind place))) at old new next
+    → m ≡ bodyLength kind → Put (line number kind (answerText a)) at old new next
+    → Put (line number kind (answerText (answerOf kind (bodyAt s kind place)))) at old new next
 line-of number kind place m s {a} {at} {next} {old} {new} e l p =
-    subst (λ (b : Answer). Put (recordLine number kind b) at old new next) (e ∙ ap (λ (j : ℕ). answerOf kind (take j (drop (place + 1) s))) l) p
+    subst (λ (b : Answer). Put (line number kind (answerText b)) at old new next) (e ∙ ap (λ (j : ℕ). answerOf kind (take j (drop (place + 1) s))) l) p
 
 -- ---- one item more
 module _ (bytes : List ℕ) (p : Stepped) (old : List ℕ) where
   -- nothing is taken
-  pub stays : Settled bytes p old → Picks bytes p old p old
+  pub stays : Settled bytes p old → ItemTaken bytes p old p old
   stays s = record { reached = λ count o. o; forth = omega arith; settled = λ e. s }
 
-  pub stays-waiting : {i : Item} → itemAt bytes (p .taken) ≡ i → Waits i → Picks bytes p old p old
+  pub stays-waiting : {i : Item} → itemAt bytes (p .taken) ≡ i → Waits i → ItemTaken bytes p old p old
   stays-waiting e w = stays (λ can. subst Waits (sym e) w)
 
   module _ (can : Able p (length old)) where
@@ -67,13 +69,13 @@ module _ (bytes : List ℕ) (p : Stepped) (old : List ℕ) where
 
     -- a line was written behind the text and what stood before it
     behind :
-        {line new : List ℕ} {next : ℕ} (text : List ℕ) → p .written ≤ length old → Put line (p .written) old new next
-        → text ++ take (p .written) old ++ line ≡ text ++ take next new
-    behind {line} text h put = append-assoc text (take (p .written) old) line ∙ ap (λ (l : List ℕ). text ++ l) (sym (put-front h put))
+        {more new : List ℕ} {next : ℕ} (text : List ℕ) → p .written ≤ length old → Put more (p .written) old new next
+        → text ++ take (p .written) old ++ more ≡ text ++ take next new
+    behind {more} text h put = append-assoc text (take (p .written) old) more ∙ ap (λ (l : List ℕ). text ++ l) (sym (put-front h put))
 
     fed-whole :
         {count kind place next : ℕ} {new : List ℕ} → Reached bytes count p old → itemAt bytes (p .taken) ≡ Whole kind place
-        → Put (recordLine (p .count + 1) kind (answerOf kind (bodyAt bytes kind place))) (p .written) old new next
+        → Put (line (p .count + 1) kind (answerText (answerOf kind (bodyAt bytes kind place)))) (p .written) old new next
         → (text : List ℕ) → feed (holding [] text count) (take (past kind (p .taken)) bytes) ≡ cameTo text next new (p .count + 1) false
     fed-whole {count} {kind} {place} {next} {new} o i put text =
         let w = is-whole bytes (p .taken) i in
@@ -88,15 +90,15 @@ module _ (bytes : List ℕ) (p : Stepped) (old : List ℕ) where
         ∙ further o text (past kind 0)
         (subst
         (λ (k : ℕ). feed (holding [] before (p .count)) (take (past k 0) d)
-        ≡ holding [] (before ++ recordLine (p .count + 1) k (answerOf k (bodyAt d k 0))) (p .count + 1))
+        ≡ holding [] (before ++ line (p .count + 1) k (answerText (answerOf k (bodyAt d k 0)))) (p .count + 1))
         same
         (gathers-whole d before (p .count) (λ z. w .known (sym (ap symbolsOf same) ∙ z)) (subst (λ (k : ℕ). past k 0 ≤ length d) (sym same) room)))
         ∙ ap (λ (t : List ℕ). holding [] t (p .count + 1))
-        (ap (λ (b : List ℕ). before ++ recordLine (p .count + 1) kind (answerOf kind b)) body ∙ behind text (o .written-in) put)
+        (ap (λ (b : List ℕ). before ++ line (p .count + 1) kind (answerText (answerOf kind b))) body ∙ behind text (o .written-in) put)
 
     fed-unknown :
         {count kind next : ℕ} {new : List ℕ} → Reached bytes count p old → itemAt bytes (p .taken) ≡ Unknown kind
-        → Put (unknownLine (p .count + 1) kind) (p .written) old new next
+        → Put (line (p .count + 1) kind (ascii "unknown")) (p .written) old new next
         → (text : List ℕ) → feed (holding [] text count) (take (p .taken + 1) bytes) ≡ cameTo text next new (p .count) true
     fed-unknown {count} {kind} {next} {new} o i put text =
         let w = is-unknown bytes (p .taken) i in
@@ -104,16 +106,16 @@ module _ (bytes : List ℕ) (p : Stepped) (old : List ℕ) where
         let before : List ℕ = text ++ take (p .written) old in
         let same : getD d 0 0 ≡ kind = head bytes (p .taken) ∙ sym (w .kind-is) in
         further o text 1 (gathers-unknown d before (p .count) (omega (arith, w .inside, length-drop (p .taken) bytes)) (ap symbolsOf same ∙ w .unknown))
-        ∙ ap (λ (k : ℕ). over (before ++ unknownLine (p .count + 1) k) (p .count)) same
+        ∙ ap (λ (k : ℕ). over (before ++ line (p .count + 1) k (ascii "unknown")) (p .count)) same
         ∙ ap (λ (t : List ℕ). over t (p .count)) (behind text (o .written-in) put)
 
     -- a whole record is taken
-    pub picks-whole :
+    pub whole-taken :
         {kind place next at : ℕ} {new : List ℕ} → itemAt bytes (p .taken) ≡ Whole kind place → at ≡ past kind (p .taken)
-        → Put (recordLine (p .count + 1) kind (answerOf kind (bodyAt bytes kind place))) (p .written) old new next
+        → Put (line (p .count + 1) kind (answerText (answerOf kind (bodyAt bytes kind place)))) (p .written) old new next
         → next ≤ p .written + LINE → next ≤ length new
-        → Picks bytes p old (record { taken = at; written = next; count = p .count + 1; stopped = false }) new
-    picks-whole {kind} {place} {next} {at} {new} i a put l fits =
+        → ItemTaken bytes p old (record { taken = at; written = next; count = p .count + 1; stopped = false }) new
+    whole-taken {kind} {place} {next} {at} {new} i a put l fits =
         let w = is-whole bytes (p .taken) i in
         record {
           reached = λ count o.
@@ -136,11 +138,11 @@ module _ (bytes : List ℕ) (p : Stepped) (old : List ℕ) where
         more (inr x) = omega (arith, x .0)
 
     -- a kind that is not known stops the reading
-    pub picks-unknown :
-        {kind next : ℕ} {new : List ℕ} → itemAt bytes (p .taken) ≡ Unknown kind → Put (unknownLine (p .count + 1) kind) (p .written) old new next
+    pub unknown-taken :
+        {kind next : ℕ} {new : List ℕ} → itemAt bytes (p .taken) ≡ Unknown kind → Put (line (p .count + 1) kind (ascii "unknown")) (p .written) old new next
         → next ≤ p .written + LINE → next ≤ length new
-        → Picks bytes p old (record { taken = p .taken + 1; written = next; count = p .count; stopped = true }) new
-    picks-unknown {kind} {next} {new} i put l fits = record {
+        → ItemTaken bytes p old (record { taken = p .taken + 1; written = next; count = p .count; stopped = true }) new
+    unknown-taken {kind} {next} {new} i put l fits = record {
       reached = λ count o. record {
         fed = fed-unknown o i put;
         taken-in = omega (arith, is-unknown bytes (p .taken) i .inside);

@@ -5,11 +5,12 @@ ghost use Prim.Native.Nat.{_+_, _-_, _*_, _≤_, _<_};
 ghost use lib.ListN.{length, take, drop};
 ghost use Rattle.records.specs.Recording.{bodyAt, past};
 ghost use Rattle.answers.specs.Answering.{answerOf};
-ghost use Rattle.lines.specs.Lines.{LINE as Lines·LINE, recordLine};
+ghost use Rattle.lines.specs.Lines.{answerText, line};
+ghost use Rattle.lines.specs.private.Widths.{LINE as Lines·LINE};
 ghost use Rattle.lines.specs.private.Placing.{Put};
 ghost use Rattle.streaming.specs.Limits.{LARGEST};
-ghost use Rattle.streaming.specs.Runner.{short, closing};
-ghost use Rattle.streaming.specs.private.Stepping.{Able, Picks, Steps};
+ghost use Rattle.streaming.specs.Runner.{closing};
+ghost use Rattle.streaming.specs.private.Stepping.{Able, ItemTaken, Steps};
 ghost use Rattle.streaming.specs.private.Advancing.{Advances};
 use answers::answer_to;
 use lines::LINE;
@@ -31,7 +32,7 @@ pub struct Stepped {
 // The line of the record of the kind that begins at the place.
 fn record_line(s: &[u8], kind: u8, place: usize, number: u64, out: &mut [u8], at: usize) -> usize
     requires { ⌜ (past kind place ≤ length (now s)) × (at + Lines·LINE ≤ length (now out)) ⌝ }
-    ensures { λ r. ⌜ Put (recordLine number kind (answerOf kind (bodyAt (now (s .entry)) kind place))) at (now (out .entry)) (now (out .exit)) r
+    ensures { λ r. ⌜ Put (line number kind (answerText (answerOf kind (bodyAt (now (s .entry)) kind place)))) at (now (out .entry)) (now (out .exit)) r
         × (r ≤ at + Lines·LINE) ⌝ }
 {
     let from = place + 1;
@@ -55,9 +56,9 @@ fn able(p: Stepped, room: usize) -> bool
 }
 
 // Takes the item at the place that p has come to, if it can.
-fn pick_up(s: &[u8], p: Stepped, out: &mut [u8]) -> Stepped
+fn take_item(s: &[u8], p: Stepped, out: &mut [u8]) -> Stepped
     requires { ⌜ p .written ≤ length (now out) ⌝ }
-    ensures { λ r. ⌜ Picks (now (s .entry)) p (now (out .entry)) r (now (out .exit)) ⌝ }
+    ensures { λ r. ⌜ ItemTaken (now (s .entry)) p (now (out .entry)) r (now (out .exit)) ⌝ }
 {
     if !able(p, out.len()) {
         return p;
@@ -99,7 +100,7 @@ fn step(s: &[u8], count: u64, out: &mut [u8]) -> Stepped
     // A record is longer than a byte, so there are never more of them than bytes.
     let mut items = s.len();
     while items > 0 {
-        let next = pick_up(s, p, out);
+        let next = take_item(s, p, out);
         if next.taken == p.taken {
             return next;
         }
@@ -147,26 +148,16 @@ pub fn advance(buf: &mut [u8], fill: usize, count: u64, out: &mut [u8]) -> Advan
     }
 }
 
-// The line of a record that the end of the input cuts, and nothing for any other item.
-fn put_cut(item: Item, count: u64, out: &mut [u8], at: usize) -> usize
-    requires { ⌜ (count < LARGEST) × (at + Lines·LINE ≤ length (now out)) ⌝ }
-    ensures { λ r. ⌜ Put (short item count) at (now (out .entry)) (now (out .exit)) r × (r ≤ at + Lines·LINE) ⌝ }
-{
-    match item {
-        Item::Cut(kind) => put_short(count + 1, kind, out, at),
-        Item::Whole { kind: _, place: _ } => at,
-        Item::Unknown(_) => at,
-        Item::End => at,
-    }
-}
-
-// The last lines: rest is what no step took, or nothing if the reading has stopped.
+// The last lines: rest is what no step took, the beginning of a record that the end of the input cuts,
+// or nothing.
 pub fn close(rest: &[u8], count: u64, out: &mut [u8], at: usize) -> usize
     requires { ⌜ (count < LARGEST) × (at + 2 * Lines·LINE ≤ length (now out)) ⌝ }
     ensures { λ r. ⌜ Put (closing (now (rest .entry)) count) at (now (out .entry)) (now (out .exit)) r × (r ≤ length (now (out .exit))) ⌝ }
 {
-    let found = records::take(rest, 0);
-    let item = found.item;
-    let next = put_cut(item, count, out, at);
+    if rest.len() == 0 {
+        return put_end(count, out, at);
+    }
+    let kind = rest[0];
+    let next = put_short(count + 1, kind, out, at);
     put_end(count, out, next)
 }

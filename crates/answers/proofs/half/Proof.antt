@@ -1,5 +1,5 @@
 -- The speech chain, with room for its codec bits.
-use Rattle.answers.specs.Chains.{halfAnswer}
+use Rattle.answers.specs.Chains.{speechAnswer}
 use borrow.Author.Needs.{needs}
 use Rattle.answers.proofs.half.Statement.{statement}
 use Rattle.answers.proofs.half.Tie as tie
@@ -14,7 +14,7 @@ decode-tp-half-requires : tie.Need-decode-tp-half-requires
 decode-tp-half-requires c κs = search needs
 
 returns : tie.Need-returns
-unfolding halfAnswer
+unfolding speechAnswer
 returns c = c .before .before .decode-tp-half .ensures .answered
 
 pub half-spec : {M : Type 1} → statement M

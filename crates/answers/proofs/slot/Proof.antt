@@ -1,5 +1,5 @@
 -- The speech chain, with room for its codec bits.
-use Rattle.answers.specs.Chains.{slotAnswer}
+use Rattle.answers.specs.Chains.{speechAnswer}
 use borrow.Author.Needs.{needs}
 use Rattle.answers.proofs.slot.Statement.{statement}
 use Rattle.answers.proofs.slot.Tie as tie
@@ -14,7 +14,7 @@ decode-tp-requires : tie.Need-decode-tp-requires
 decode-tp-requires c κs = search needs
 
 returns : tie.Need-returns
-unfolding slotAnswer
+unfolding speechAnswer
 returns c = c .before .before .decode-tp .ensures .answered
 
 pub slot-spec : {M : Type 1} → statement M

@@ -1,4 +1,6 @@
-use Rattle.records.proofs.Laws.{symbols-none, symbols-table}
+use mathlib.Core.Path.{refl}
+use Rattle.records.specs.Kinds.{symbolsOf}
+use Rattle.records.proofs.Laws.{symbols-none}
 use borrow.Author.Needs.{needs}
 use Rattle.records.proofs.symbols.Statement.{statement}
 use Rattle.records.proofs.symbols.Tie as tie
@@ -17,7 +19,8 @@ array-read-result c = search needs
 
 -- src/lib.rt:29:1
 returns-2 : tie.Need-returns-2
-returns-2 c = symbols-table (c .before .args .kind)
+unfolding symbolsOf
+returns-2 c = refl
 
 pub symbols-spec : {M : Type 1} → statement M
 symbols-spec = tie.close (tie.spec returns mul-result array-read-result returns-2)

@@ -33,7 +33,7 @@ read-some-requires c κs =
     let l = went .before .before in
     let b = l .before .before .before .before in
     let on = went .before .goes .ensures .0 (went .if1 .taken) in
-    omega (arith, l .loop .inv .2 on .small, l .loop .inv .0, b .pre .input)
+    omega (arith, l .loop .inv .2 on .less, l .loop .inv .0, b .pre .input)
 
 turn-requires : tie.Need-turn-requires Inv-loop μ-loop
 turn-requires c κs =

@@ -9,7 +9,7 @@ use lib.ListN.{length, take}
 use Rattle.records.specs.Recording.{itemAt}
 use Rattle.records.specs.declared.Item.{Item}
 use Rattle.records.specs.declared.Item.the-variants.{Whole, Unknown, Cut, End}
-use Rattle.lines.specs.Lines.{LINE}
+use Rattle.lines.specs.private.Widths.{LINE}
 use Rattle.streaming.specs.Runner.{State, holding, feed}
 use Rattle.streaming.specs.Limits.{LARGEST}
 use Rattle.streaming.specs.declared.inner.Stepped.{Stepped}
@@ -31,7 +31,7 @@ pub record Able (p : Stepped) (room : ℕ) : Type 0 where
   pub line : p .written + LINE ≤ room
   pub number : p .count < LARGEST
 
--- how far it is, after so many records before its first byte
+-- how far a step is that began after so many records
 pub record Reached (bytes : List ℕ) (count : ℕ) (p : Stepped) (out : List ℕ) : Type 0 where
   -- after any text, the definition comes to the same from the bytes that were taken
   pub fed : (text : List ℕ) → feed (holding [] text count) (take (p .taken) bytes) ≡ cameTo text (p .written) out (p .count) (p .stopped)
@@ -44,17 +44,17 @@ pub record Reached (bytes : List ℕ) (count : ℕ) (p : Stepped) (out : List �
   pub counts : p .stopped ≡ false → (count < p .count) ⊎ ((p .count ≡ count) × (p .taken ≡ 0))
   pub numbered : p .stopped ≡ true → p .count < LARGEST
 
--- what it leaves waits for more, if another item could be taken
+-- it takes no more: what it leaves waits for more, if another item could be taken
 abbrev pub Settled : List ℕ → Stepped → List ℕ → Type 0
 Settled bytes p out = Able p (length out) → Waits (itemAt bytes (p .taken))
 
--- what one item brings: wherever it was, it is as far now, or settled where it takes nothing
-pub record Picks (bytes : List ℕ) (p : Stepped) (old : List ℕ) (r : Stepped) (new : List ℕ) : Type 0 where
+-- what comes of one item: however far it was, it is as far again, and it is settled if nothing was taken
+pub record ItemTaken (bytes : List ℕ) (p : Stepped) (old : List ℕ) (r : Stepped) (new : List ℕ) : Type 0 where
   pub reached : (count : ℕ) → Reached bytes count p old → Reached bytes count r new
   pub forth : p .taken ≤ r .taken
   pub settled : r .taken ≡ p .taken → Settled bytes r new
 
--- what a step brings
+-- what comes of a step
 pub record Steps (bytes : List ℕ) (count : ℕ) (r : Stepped) (new : List ℕ) : Type 0 where
   pub reached : Reached bytes count r new
   pub settled : Settled bytes r new

@@ -1,7 +1,7 @@
 -- A number, a space, two digits and a space, one after the other.
 use native.Mathlib.Omega.{arith}
 use borrow.Author.Needs.{needs}
-use Rattle.lines.specs.Lines.{heading}
+use Rattle.lines.specs.private.Widths.{heading}
 use Rattle.lines.proofs.Laws.{hex-length, heading-length}
 use Rattle.lines.proofs.Placing.{put-then}
 use Rattle.lines.proofs.inner.put_heading.Statement.{statement}

@@ -2,6 +2,7 @@
 use native.Mathlib.Omega.{arith}
 use borrow.Author.Needs.{needs}
 use Rattle.lines.specs.Lines.{line}
+use Rattle.lines.specs.private.Widths.{heading}
 use Rattle.lines.proofs.Laws.{line-length}
 use Rattle.lines.proofs.Placing.{put-then}
 use Rattle.lines.proofs.inner.put_line.Statement.{statement}
@@ -21,7 +22,7 @@ same-length : tie.Need-same-length
 same-length c = search needs
 
 returns : tie.Need-returns
-unfolding line
+unfolding line heading
 returns c =
     put-then (omega arith) (put-then (omega arith) (c .before .before .before .before .before .before .before .before .before .before .put-heading .ensures) (c .before .before .before .before .before .before .put-text .ensures)) (c .before .before .put-byte .ensures)
 

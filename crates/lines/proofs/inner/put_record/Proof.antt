@@ -2,6 +2,7 @@
 use native.Mathlib.Omega.{arith}
 use borrow.Author.Needs.{needs}
 use Rattle.lines.specs.Lines.{line}
+use Rattle.lines.specs.private.Widths.{heading}
 use Rattle.lines.proofs.Laws.{decimal-most, heading-length}
 use Rattle.lines.proofs.Placing.{put-then}
 use Rattle.lines.proofs.inner.put_record.Statement.{statement}
@@ -22,7 +23,7 @@ same-length : tie.Need-same-length
 same-length c = search needs
 
 returns : tie.Need-returns
-unfolding line
+unfolding line heading
 returns c = (
   put-then (omega arith) (put-then (omega arith) (c .before .before .before .before .before .before .before .before .before .before .put-heading .ensures) (c .before .before .before .before .before .before .put-answer .ensures .0)) (c .before .before .put-byte .ensures),
   omega (arith, decimal-most (c .before .before .before .before .before .before .before .before .before .before .before .before .before .args .number) (c .before .before .before .before .before .before .before .before .before .before .before .before .before .fits .number .fits), heading-length (c .before .before .before .before .before .before .before .before .before .before .before .before .before .args .number) (c .before .before .before .before .before .before .before .before .before .before .before .before .before .args .kind), c .before .before .before .before .before .before .before .before .before .before .put-heading .ensures .ends, c .before .before .before .before .before .before .put-answer .ensures .1, c .before .before .put-byte .ensures .ends),

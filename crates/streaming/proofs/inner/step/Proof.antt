@@ -1,4 +1,4 @@
--- Each item that is picked up takes a byte at least, so what is left to look at is never less than the bytes that are left.
+-- Each item that is taken has a byte at least, so what is left to look at is never less than the bytes that are left.
 use mathlib.Core.Path.{_≡_, refl, _∙_}
 use Prim.Native.Nat.{_+_, _≤_}
 use lib.ListN.{length}
@@ -18,17 +18,17 @@ abbrev μ-loop : tie.MeasureT-loop
 loop-holds : tie.Need-loop-holds Inv-loop μ-loop
 loop-holds c = (reached-none _ _ _, omega arith, refl)
 
-pick-up-requires : tie.Need-pick-up-requires Inv-loop μ-loop
-pick-up-requires c κs = search needs
+take-item-requires : tie.Need-take-item-requires Inv-loop μ-loop
+take-item-requires c κs = search needs
 
 same-length : tie.Need-same-length Inv-loop μ-loop
 same-length c = search needs
 
 returns : tie.Need-returns Inv-loop μ-loop
 returns c =
-    let picked = c .before .before .before .before .before .pick-up .ensures in
+    let took = c .before .before .before .before .before .take-item .ensures in
     let l = c .before .before .before .before .before .before .before .before in
-    record { reached = picked .reached _ (l .loop .inv .0); settled = picked .settled (c .if1 .taken) }
+    record { reached = took .reached _ (l .loop .inv .0); settled = took .settled (c .if1 .taken) }
 
 sub-items : tie.Need-sub-items Inv-loop μ-loop
 sub-items c = search needs
@@ -38,9 +38,9 @@ loop-less c = search needs
 
 loop-again : tie.Need-loop-again Inv-loop μ-loop
 loop-again c =
-    let picked = c .before .before .before .before .before .pick-up .ensures in
+    let took = c .before .before .before .before .before .take-item .ensures in
     let l = c .before .before .before .before .before .before .before .before in
-    (picked .reached _ (l .loop .inv .0), omega (arith, picked .forth, l .loop .inv .1), c .before .before .before .before .before .pick-up .kept .1 .1 .0 ∙ l .loop .inv .2)
+    (took .reached _ (l .loop .inv .0), omega (arith, took .forth, l .loop .inv .1), c .before .before .before .before .before .take-item .kept .1 .1 .0 ∙ l .loop .inv .2)
 
 same-length-2 : tie.Need-same-length-2 Inv-loop μ-loop
 same-length-2 c = search needs
@@ -55,7 +55,7 @@ step-spec =
     Inv-loop
     μ-loop
     loop-holds
-    pick-up-requires
+    take-item-requires
     same-length
     returns
     sub-items

@@ -1,11 +1,11 @@
 -- Where it does not go on, and where there is no whole record, all stays; a whole record and an unknown kind write their lines.
 use borrow.Author.Tests.{not-true, not-false}
 use Rattle.records.proofs.Laws.{is-whole, is-unknown}
-use Rattle.streaming.proofs.Stepping.{stays, stays-waiting, picks-whole, picks-unknown, found-item, found-at}
+use Rattle.streaming.proofs.Stepping.{stays, stays-waiting, whole-taken, unknown-taken, found-item, found-at}
 use native.Mathlib.Omega.{arith}
 use borrow.Author.Needs.{needs}
-use Rattle.streaming.proofs.inner.pick_up.Statement.{statement}
-use Rattle.streaming.proofs.inner.pick_up.Tie as tie
+use Rattle.streaming.proofs.inner.take_item.Statement.{statement}
+use Rattle.streaming.proofs.inner.take_item.Tie as tie
 
 able-requires : tie.Need-able-requires
 able-requires c κs = search needs
@@ -56,7 +56,7 @@ returns-2 c =
     let found = it .before .before in
     let went = found .before .before in
     let can = went .before .able .ensures .0 (not-false _ (went .if1 .left)) in
-    picks-whole _ _ _ can (found-item _ _ (found .take .ensures) (it .item .given .1))
+    whole-taken _ _ _ can (found-item _ _ (found .take .ensures) (it .item .given .1))
     (found-at _ _ (found .take .ensures) (it .item .given .1)) (put .record-line .ensures .0) (put .record-line .ensures .1)
     (omega (arith, can .line, put .record-line .ensures .1))
 
@@ -70,7 +70,7 @@ returns-3 c =
     let found = it .before .before in
     let went = found .before .before in
     let can = went .before .able .ensures .0 (not-false _ (went .if1 .left)) in
-    picks-unknown _ _ _ can (found-item _ _ (found .take .ensures) (it .item2 .given .1))
+    unknown-taken _ _ _ can (found-item _ _ (found .take .ensures) (it .item2 .given .1))
     (put .put-unknown .ensures .0) (put .put-unknown .ensures .1) (omega (arith, can .line, put .put-unknown .ensures .1))
 
 returns-4 : tie.Need-returns-4
@@ -79,8 +79,8 @@ returns-4 c = stays-waiting _ _ _ (found-item _ _ (c .before .before .take .ensu
 returns-5 : tie.Need-returns-5
 returns-5 c = stays-waiting _ _ _ (found-item _ _ (c .before .before .take .ensures) (c .enum-told2 .given .1)) tt
 
-pub pick-up-spec : {M : Type 1} → statement M
-pick-up-spec =
+pub take-item-spec : {M : Type 1} → statement M
+take-item-spec =
     tie.close
     (tie.spec
     able-requires
