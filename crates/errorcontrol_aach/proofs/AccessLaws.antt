@@ -9,12 +9,12 @@ use native.Mathlib.Omega.{arith}
 use lib.Dec.{eqb}
 use lib.ListN.{length, take, drop, getD, set, length-append, List·getD-append}
 use lib.Seq.{ext-getD, getD-set-same, getD-set-other, set-append-left, take-at}
-use borrow.Author.Tests.{eqb-true, eqb-false, le-ltb}
+use borrow.Author.Tests.{eqb-true, eqb-false, lt-ltb, le-ltb}
 use Rattle.base.specs.Refusal.{SHORT, BIT, accepted, when}
 use Rattle.base.specs.Bits.{both, Bits, bitsOnly}
 use Rattle.base.specs.Digits.{digits, number}
 use Rattle.base.specs.Places.{written}
-use Rattle.base.proofs.BitLaws.{is-bit-yes, bits-at}
+use Rattle.base.proofs.BitLaws.{two-bits, bits-at}
 use Rattle.base.proofs.DigitLaws.{digits-length, digits-bits, number-digits}
 use Rattle.linear.specs.Linear.{turned}
 use Rattle.scrambler.specs.Scrambling.{output, descrambledSymbol, descrambled}
@@ -31,13 +31,7 @@ use Rattle.errorcontrol_aach.proofs.Numbers.{front-lt, flipped-length, 
 
 -- ---- a flipped bit stays flipped through the scrambling
 symbol-flipped : (r o : ℕ) → r < 2 → o < 2 → descrambledSymbol (1 - r) o ≡ 1 - descrambledSymbol r o
-symbol-flipped zero zero h k = refl
-symbol-flipped zero (suc zero) h k = refl
-symbol-flipped zero (suc (suc o)) h k = absurd (omega arith)
-symbol-flipped (suc zero) zero h k = refl
-symbol-flipped (suc zero) (suc zero) h k = refl
-symbol-flipped (suc zero) (suc (suc o)) h k = absurd (omega arith)
-symbol-flipped (suc (suc r)) o h k = absurd (omega arith)
+symbol-flipped = two-bits (λ r o. descrambledSymbol (1 - r) o ≡ 1 - descrambledSymbol r o) refl refl refl refl
 
 descrambled-flipped : (start p : ℕ) (b : List ℕ) → Bits b → 0 < p → p ≤ length b → descrambled start (flipped p b) ≡ flipped p (descrambled start b)
 descrambled-flipped start p b bits h k =
@@ -73,7 +67,7 @@ flipped-front p air rest h k =
 front-only : (n : ℕ) (air rest : List ℕ) → Bits air → length air ≡ n → bitsOnly n (air ++ rest) ≡ true
 front-only zero air rest b e = refl
 front-only (suc n) [] rest b e = absurd (omega arith)
-front-only (suc n) (x ∷ air) rest b e = ap₂ both (is-bit-yes x (b .0)) (front-only n air rest (b .1) (omega arith))
+front-only (suc n) (x ∷ air) rest b e = ap₂ both (lt-ltb x 2 (b .0)) (front-only n air rest (b .1) (omega arith))
 
 decoded-front : (start : ℕ) (air rest : List ℕ) → Bits air → length air ≡ 30 → decoded start (air ++ rest) ≡ Is (verdict (number (descrambled start air)))
 unfolding received
