@@ -15,25 +15,18 @@ use Rattle.records.specs.declared.Item.the-variants.{Whole, Unknown, Cut
 abbrev pub past : ℕ → ℕ → ℕ
 past kind place = place + 1 + bodyLength kind
 
--- at the end of the bytes: the end; a kind that is not known; a whole record, if its body is all there; and otherwise one that is cut
-unfoldable pub itemAt : List ℕ → ℕ → Item
-itemAt bytes place =
-    pick (ltb place (length bytes))
-    (pick (eqb (symbolsOf (getD bytes place 0)) 0)
-    (Unknown (getD bytes place 0))
-    (pick (leb (past (getD bytes place 0) place) (length bytes)) (Whole (getD bytes place 0) place) (Cut (getD bytes place 0))))
-    End
+-- what a reader hands out, and where it then stands: at the end of the bytes the end; a kind that is not known; a record that is cut, if its
+-- body is not all there; and otherwise a whole record, which alone it moves past
+unfoldable pub stepAt : List ℕ → ℕ → Step
+stepAt bytes place =
+    pick (leb (length bytes) place) (record { item = End; at = place })
+    (pick (eqb (symbolsOf (getD bytes place 0)) 0) (record { item = Unknown (getD bytes place 0); at = place })
+    (pick (ltb (length bytes) (past (getD bytes place 0) place)) (record { item = Cut (getD bytes place 0); at = place })
+    (record { item = Whole (getD bytes place 0) place; at = past (getD bytes place 0) place })))
 
--- the place after an item that stands at a place: past a whole record, and otherwise the same place
-abbrev pub after : Item → ℕ → ℕ
-after (Whole kind at) place = past kind place
-after (Unknown kind) place = place
-after (Cut kind) place = place
-after End place = place
-
--- what a reader does at a place: what it hands out, and where it then stands
-abbrev pub stepAt : List ℕ → ℕ → Step
-stepAt bytes place = record { item = itemAt bytes place; at = after (itemAt bytes place) place }
+-- what stands at a place
+abbrev pub itemAt : List ℕ → ℕ → Item
+itemAt bytes place = stepAt bytes place .item
 
 -- the body of the record of the kind that begins at the place
 abbrev pub bodyAt : List ℕ → ℕ → ℕ → List ℕ

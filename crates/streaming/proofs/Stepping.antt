@@ -9,11 +9,11 @@ use native.Mathlib.Omega.{arith}
 use lib.ListN.{length, take, drop, getD, length-drop}
 use lib.Seq.{take-add, drop-drop}
 use Rattle.records.specs.Kinds.{symbolsOf, bodyLength}
-use Rattle.records.specs.Recording.{itemAt, stepAt, after, bodyAt, past}
+use Rattle.records.specs.Recording.{itemAt, stepAt, bodyAt, past}
 use Rattle.records.specs.declared.Item.{Item}
 use Rattle.records.specs.declared.Item.the-variants.{Whole, Unknown}
 use Rattle.records.specs.declared.Step.{Step}
-use Rattle.records.proofs.Laws.{symbols-least, item-end, is-whole, is-unknown}
+use Rattle.records.proofs.Laws.{symbols-least, item-end, step-past, is-whole, is-unknown}
 use Rattle.answers.specs.declared.Answer.{Answer}
 use Rattle.answers.specs.Answering.{answerOf}
 use Rattle.lines.specs.Text.{ascii}
@@ -34,8 +34,8 @@ no-true q = absurd (omega (arith, ap {B = ℕ} (λ (t : Bool). cond t 1 0) q))
 pub found-item : (s : List ℕ) (at : ℕ) {found : Step} {i : Item} → found ≡ stepAt s at → found .item ≡ i → itemAt s at ≡ i
 found-item s at f g = sym (ap (λ (t : Step). t .item) f) ∙ g
 
-pub found-at : (s : List ℕ) (at : ℕ) {found : Step} {i : Item} → found ≡ stepAt s at → found .item ≡ i → found .at ≡ after i at
-found-at s at f g = ap (λ (t : Step). t .at) f ∙ ap (λ (i : Item). after i at) (found-item s at f g)
+pub found-at : (s : List ℕ) (at : ℕ) {found : Step} {kind place : ℕ} → found ≡ stepAt s at → found .item ≡ Whole kind place → found .at ≡ past kind at
+found-at s at f g = ap (λ (t : Step). t .at) f ∙ step-past s at (found-item s at f g)
 
 -- a record's line, by the part of the bytes that its answer was made from
 pub line-of :

@@ -8,7 +8,7 @@ use native.Mathlib.Omega.{arith}
 use lib.ListN.{length, drop, getD, length-drop}
 use lib.Seq.{getD-drop}
 use Rattle.records.specs.Kinds.{symbolsOf}
-use Rattle.records.specs.Recording.{pick, itemAt, past}
+use Rattle.records.specs.Recording.{pick, stepAt, itemAt, past}
 use Rattle.records.specs.declared.Item.{Item}
 use Rattle.records.specs.declared.Item.the-variants.{Whole, Unknown, Cut, End}
 use Rattle.records.proofs.Laws.{symbols-most, item-end, item-cut, is-cut, is-end}
@@ -68,7 +68,7 @@ waits-held s text count w = go (itemAt s 0) refl w
 
 -- ---- what is held waits for more
 waits-nothing : Waits (itemAt [] 0)
-unfolding itemAt
+unfolding stepAt
 waits-nothing = tt
 
 pub held-waits : (state : State) → Waits (itemAt (state .held) 0) → (s : List ℕ) → Waits (itemAt (feed state s .held) 0)

@@ -1,4 +1,4 @@
-use Rattle.records.proofs.Laws.{symbols-most, item-end, item-unknown, item-cut, step-of, step-whole}
+use Rattle.records.proofs.Laws.{symbols-most, step-end, step-unknown, step-cut, step-counted}
 use mathlib.Core.Path.{sym, _∙_}
 use lib.ListN.{getD}
 use native.Mathlib.Omega.{arith}
@@ -8,7 +8,7 @@ use Rattle.records.proofs.step_at.Tie as tie
 
 -- src/lib.rt:44:9
 returns : tie.Need-returns
-returns c = step-of _ _ (item-end _ _ (c .if1 .taken))
+returns c = step-end _ _ (c .if1 .taken)
 
 -- src/lib.rt:49:16
 shared-slice-read-kind : tie.Need-shared-slice-read-kind
@@ -20,7 +20,7 @@ symbols-requires c κs = search needs
 
 -- src/lib.rt:52:9
 returns-2 : tie.Need-returns-2
-returns-2 c = step-of _ _ (item-unknown _ _ (omega arith) (sym (c .before .symbols .ensures) ∙ c .if2 .taken))
+returns-2 c = step-unknown _ _ (omega arith) (sym (c .before .symbols .ensures) ∙ c .if2 .taken)
 
 -- src/lib.rt:57:16
 add-body : tie.Need-add-body
@@ -42,11 +42,11 @@ add-t16 c = search needs
 
 -- src/lib.rt:40:1
 returns-3 : tie.Need-returns-3
-returns-3 c = step-whole _ _ (omega arith) (c .before .before .symbols .ensures) (c .before .if2 .left) (c .if3 .taken)
+returns-3 c = step-counted _ _ (omega arith) (c .before .before .symbols .ensures) (c .before .if2 .left) (c .if3 .taken)
 
 -- src/lib.rt:40:1
 returns-4 : tie.Need-returns-4
-returns-4 c = step-of _ _ (item-cut _ _ (omega arith) (λ w. c .before .if2 .left (c .before .before .symbols .ensures ∙ w)) (omega (arith, c .before .before .symbols .ensures)))
+returns-4 c = step-cut _ _ (omega arith) (λ w. c .before .if2 .left (c .before .before .symbols .ensures ∙ w)) (omega (arith, c .before .before .symbols .ensures))
 
 pub step-at-spec : {M : Type 1} → statement M
 step-at-spec =
