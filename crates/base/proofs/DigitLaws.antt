@@ -1,13 +1,13 @@
 -- Laws of numbers written as bits, the most significant first.
 -- Assumes nothing.
 use mathlib.Core.Path.{_≡_, refl, sym, ap, ap₂, _∙_}
-use mathlib.Core.List.{List, [], _∷_}
+use mathlib.Core.List.{List, [], _∷_, foldl}
 use Prim.Native.Nat.{ℕ, zero, suc, _+_, _*_, _/_, _%_, _^_, _-_, _<_}
 use native.Mathlib.Nat.{pow-suc, div-div-eq-div-mul, mul-comm, mul-assoc, add-mul, add-assoc, div-add-mod'}
 use native.Mathlib.Omega.{arith}
 use lib.ListN.{length, getD}
 use Rattle.base.specs.Bits.{Bits}
-use Rattle.base.specs.Digits.{digits, numberFrom, number}
+use Rattle.base.specs.Digits.{digits, number}
 
 pub digits-length : (k n : ℕ) → length (digits k n) ≡ k
 digits-length zero n = refl
@@ -24,6 +24,10 @@ digits-at (suc k) n zero h = ap (λ (e : ℕ). n / 2 ^ e % 2) (omega arith)
 digits-at (suc k) n (suc j) h =
     let e : k - 1 - j ≡ suc k - 1 - suc j = omega arith in
     digits-at k n j (omega arith) ∙ ap (λ (x : ℕ). n / 2 ^ x % 2) e
+
+-- the number that the digits say, after n
+abbrev pub numberFrom : ℕ → List ℕ → ℕ
+numberFrom = foldl (λ n b. n * 2 + b)
 
 lead : (b : ℕ) (w : List ℕ) → number (b ∷ w) ≡ numberFrom b w
 lead b w =

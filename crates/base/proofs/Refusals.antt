@@ -1,11 +1,12 @@
 -- What an entry answers and leaves, from its refusal number; and what no refusal says of each test.
 -- Assumes nothing.
-use mathlib.Core.Path.{_≡_, refl}
+use mathlib.Core.Path.{_≡_, refl, ap}
 use mathlib.Core.Bool.{Bool, true, false}
 use Prim.Native.Nat.{ℕ, zero, suc}
 use native.Mathlib.Omega.{arith}
-use Rattle.base.specs.Refusal.{when, outcome, unless}
+use Rattle.base.specs.Refusal.{when, outcome, unless, valued}
 use Rattle.base.specs.declared.Outcome.the-variants.{Done, Refused}
+use Rattle.base.specs.declared.Valued.the-variants as values
 
 -- a refusal gives its number and leaves the target
 pub refused : {A : Type 0} (n number : ℕ) (made kept : A) → n ≡ number → (n ≡ 0 → ⊥)
@@ -18,6 +19,15 @@ pub done : {A : Type 0} (n number : ℕ) (made kept left : A) → n ≡ number �
     → (Done ≡ outcome number) × (left ≡ unless number made kept)
 done zero number made kept left e h was = rw (← e) (refl, was)
 done (suc n) number made kept left e h was = absurd (omega arith)
+
+-- the same two for an entry that has a value
+pub value-refused : (n number value : ℕ) → n ≡ number → (n ≡ 0 → ⊥) → values.Refused n ≡ valued number value
+value-refused zero number value e h = absurd (h refl)
+value-refused (suc n) number value e h = rw (← e)
+
+pub value-done : (n number value own : ℕ) → n ≡ number → n ≡ 0 → own ≡ value → values.Value own ≡ valued number value
+value-done zero number value own e h was = rw (← e) (ap values.Value was)
+value-done (suc n) number value own e h was = absurd (omega arith)
 
 -- where nothing is refused the first test failed, and the later ones refuse nothing
 pub passed : (test : Bool) (number later : ℕ) → when test (suc number) later ≡ 0 → (test ≡ false) × (later ≡ 0)

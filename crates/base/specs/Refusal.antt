@@ -1,13 +1,17 @@
 -- The refusal numbers of document 01, and what an entry leaves when it refuses.
 -- An entry's own refusal is a chain of `when`, in the order of document 01: 8, 7, 6, 1, 5, 2, 3, 4, 9.
 -- Assumes nothing.
+use mathlib.Core.Path.{_≡_}
+use mathlib.Core.List.{List}
+use mathlib.Core.Bool.{Bool, true, false}
 use Prim.Native.Nat.{ℕ, zero, suc}
 use lib.Dec.{ltb}
-use mathlib.Core.Bool.{Bool, true, false}
 -- `when test number later`: the number where the test holds, and otherwise what the later tests say
 pub use mathlib.Core.Bool.{cond as when}
 use Rattle.base.specs.declared.Outcome.{Outcome}
 use Rattle.base.specs.declared.Outcome.the-variants.{Done, Refused}
+use Rattle.base.specs.declared.Valued.{Valued}
+use Rattle.base.specs.declared.Valued.the-variants as values
 use Rattle.base.specs.declared.Counts.{Counts}
 use Rattle.base.specs.declared.Received.{Received}
 use Rattle.base.specs.declared.Received.the-variants as received
@@ -53,6 +57,15 @@ unless (suc number) made kept = kept
 abbrev pub outcome : ℕ → Outcome
 outcome zero = Done
 outcome (suc number) = Refused (suc number)
+
+-- what an entry with one target owes: its answer, and what it made in the target, or what was there before
+abbrev pub Leaves : ℕ → List ℕ → List ℕ → List ℕ → Outcome → Type 0
+Leaves refusal made before after answer = (answer ≡ outcome refusal) × (after ≡ unless refusal made before)
+
+-- the answer of an entry that has a value: the value where nothing is refused
+abbrev pub valued : ℕ → ℕ → Valued
+valued zero value = values.Value value
+valued (suc number) value = values.Refused (suc number)
 
 -- the answer of a receive chain: whether the check agreed, and what was counted
 abbrev pub checked : Bool → Counts → Received

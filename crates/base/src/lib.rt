@@ -29,6 +29,12 @@ pub enum Outcome {
     Refused(u8),
 }
 
+// A value, or the number of the refusal.
+pub enum Valued {
+    Value(usize),
+    Refused(u8),
+}
+
 // What a receive chain counted.
 pub struct Counts {
     pub disagreements: usize,

@@ -2,18 +2,17 @@
 // written over the caller's answer.
 ghost use mathlib.Core.Path.{_≡_};
 ghost use Prim.Native.Nat.{_+_, _*_};
-ghost use Rattle.caplattice.specs.Answer.{saying, valueReport, outcomeRefusal, receivedReport, registerReport, startReport, codedReport, readingReport, verdictReport, judgedReport, comparedReport, decodedReport, nextReport, encodedReport, delaysIn};
-ghost use Rattle.caplattice.specs.Promises.{Reports};
+ghost use Rattle.base.specs.Refusal.{outcome};
+ghost use Rattle.rm3014.specs.declared.Judged.the-variants.{Is};
+ghost use Rattle.caplattice.specs.Answer.{saying, valuedReport, receivedReport, judgedReport, comparedReport, encodedReport, delaysNumber, delaysIn};
+ghost use Rattle.caplattice.specs.Promises.{Tells};
+ghost use Rattle.caplattice.specs.Telling.{Fair};
 use base::Outcome;
 use base::Received;
+use base::Valued;
 use comparing::Compared;
-use crc16::Register;
-use rm3014::Coded;
 use rm3014::Judged;
-use rm3014::Reading;
 use rm3014::Verdict;
-use scrambler::Start;
-use viterbi::Decoded;
 
 const DONE: u64 = 0;
 
@@ -33,14 +32,16 @@ const DIFFERS: u64 = 7;
 
 // Writes an answer; 0, because nothing was refused.
 fn say(answer: &mut [u64; 6], verdict: u64, value: u64, disagreements: u64, place: u64) -> u8
-    ensures { λ r. ⌜ Reports (saying verdict value disagreements place) (now (answer .entry)) (now (answer .exit)) r ⌝ }
+    ensures { λ r. ⌜ Tells (saying verdict value disagreements place) r (now (answer .exit)) ⌝ }
 {
     *answer = [verdict, value, disagreements, place, 0, 0];
     0
 }
 
+// The number of a refusal, or 0.
 pub fn refusal_of(own: Outcome) -> u8
-    ensures { λ r. ⌜ r ≡ outcomeRefusal own ⌝ }
+    requires { ⌜ Fair own ⌝ }
+    ensures { λ r. ⌜ own ≡ outcome r ⌝ }
 {
     match own {
         Outcome::Done => 0,
@@ -49,13 +50,13 @@ pub fn refusal_of(own: Outcome) -> u8
 }
 
 pub fn tell_value(own: u64, answer: &mut [u64; 6]) -> u8
-    ensures { λ r. ⌜ Reports (valueReport own) (now (answer .entry)) (now (answer .exit)) r ⌝ }
+    ensures { λ r. ⌜ Tells (saying 0 own 0 0) r (now (answer .exit)) ⌝ }
 {
     say(answer, DONE, own, 0, 0)
 }
 
 pub fn tell_received(own: Received, answer: &mut [u64; 6]) -> u8
-    ensures { λ r. ⌜ Reports (receivedReport own) (now (answer .entry)) (now (answer .exit)) r ⌝ }
+    ensures { λ r. ⌜ Tells (receivedReport own (now (answer .entry))) r (now (answer .exit)) ⌝ }
 {
     match own {
         Received::Good(counts) => say(answer, GOOD, 0, counts.disagreements as u64, 0),
@@ -64,44 +65,17 @@ pub fn tell_received(own: Received, answer: &mut [u64; 6]) -> u8
     }
 }
 
-pub fn tell_register(own: Register, answer: &mut [u64; 6]) -> u8
-    ensures { λ r. ⌜ Reports (registerReport own) (now (answer .entry)) (now (answer .exit)) r ⌝ }
+pub fn tell_valued(own: Valued, answer: &mut [u64; 6]) -> u8
+    ensures { λ r. ⌜ Tells (valuedReport (λ n. saying 0 n 0 0) own (now (answer .entry))) r (now (answer .exit)) ⌝ }
 {
     match own {
-        Register::Value(register) => tell_value(register as u64, answer),
-        Register::Refused(number) => number,
-    }
-}
-
-pub fn tell_start(own: Start, answer: &mut [u64; 6]) -> u8
-    ensures { λ r. ⌜ Reports (startReport own) (now (answer .entry)) (now (answer .exit)) r ⌝ }
-{
-    match own {
-        Start::Value(start) => tell_value(start as u64, answer),
-        Start::Refused(number) => number,
-    }
-}
-
-pub fn tell_coded(own: Coded, answer: &mut [u64; 6]) -> u8
-    ensures { λ r. ⌜ Reports (codedReport own) (now (answer .entry)) (now (answer .exit)) r ⌝ }
-{
-    match own {
-        Coded::Word(word) => tell_value(word as u64, answer),
-        Coded::Refused(number) => number,
-    }
-}
-
-pub fn tell_reading(own: Reading, answer: &mut [u64; 6]) -> u8
-    ensures { λ r. ⌜ Reports (readingReport own) (now (answer .entry)) (now (answer .exit)) r ⌝ }
-{
-    match own {
-        Reading::Bits(bits) => tell_value(bits as u64, answer),
-        Reading::Refused(number) => number,
+        Valued::Value(n) => say(answer, DONE, n as u64, 0, 0),
+        Valued::Refused(number) => number,
     }
 }
 
 fn tell_verdict(own: Verdict, answer: &mut [u64; 6]) -> u8
-    ensures { λ r. ⌜ Reports (verdictReport own) (now (answer .entry)) (now (answer .exit)) r ⌝ }
+    ensures { λ r. ⌜ Tells (judgedReport (Is own) (now (answer .entry))) r (now (answer .exit)) ⌝ }
 {
     match own {
         Verdict::Clean(bits) => say(answer, CLEAN, bits as u64, 0, 0),
@@ -111,7 +85,7 @@ fn tell_verdict(own: Verdict, answer: &mut [u64; 6]) -> u8
 }
 
 pub fn tell_judged(own: Judged, answer: &mut [u64; 6]) -> u8
-    ensures { λ r. ⌜ Reports (judgedReport own) (now (answer .entry)) (now (answer .exit)) r ⌝ }
+    ensures { λ r. ⌜ Tells (judgedReport own (now (answer .entry))) r (now (answer .exit)) ⌝ }
 {
     match own {
         Judged::Is(verdict) => tell_verdict(verdict, answer),
@@ -120,7 +94,7 @@ pub fn tell_judged(own: Judged, answer: &mut [u64; 6]) -> u8
 }
 
 pub fn tell_compared(own: Compared, answer: &mut [u64; 6]) -> u8
-    ensures { λ r. ⌜ Reports (comparedReport own) (now (answer .entry)) (now (answer .exit)) r ⌝ }
+    ensures { λ r. ⌜ Tells (comparedReport own) r (now (answer .exit)) ⌝ }
 {
     match own {
         Compared::Matched(n) => say(answer, MATCHED, n as u64, 0, 0),
@@ -128,12 +102,12 @@ pub fn tell_compared(own: Compared, answer: &mut [u64; 6]) -> u8
     }
 }
 
-pub fn tell_decoded(own: Decoded, answer: &mut [u64; 6]) -> u8
-    ensures { λ r. ⌜ Reports (decodedReport own) (now (answer .entry)) (now (answer .exit)) r ⌝ }
+pub fn tell_decoded(own: Valued, answer: &mut [u64; 6]) -> u8
+    ensures { λ r. ⌜ Tells (valuedReport (λ n. saying 0 0 n 0) own (now (answer .entry))) r (now (answer .exit)) ⌝ }
 {
     match own {
-        Decoded::Word(n) => say(answer, DONE, 0, n as u64, 0),
-        Decoded::Refused(number) => number,
+        Valued::Value(n) => say(answer, DONE, 0, n as u64, 0),
+        Valued::Refused(refusal) => refusal,
     }
 }
 
@@ -155,7 +129,7 @@ fn delays_number(a: u8, b: u8, c: u8, d: u8) -> u32
 }
 
 fn tell_next(own: Outcome, next: u32, answer: &mut [u64; 6]) -> u8
-    ensures { λ r. ⌜ Reports (nextReport own next) (now (answer .entry)) (now (answer .exit)) r ⌝ }
+    ensures { λ r. ⌜ Tells (encodedReport own next (now (answer .entry))) r (now (answer .exit)) ⌝ }
 {
     match own {
         Outcome::Done => say(answer, DONE, next as u64, 0, 0),
@@ -164,7 +138,7 @@ fn tell_next(own: Outcome, next: u32, answer: &mut [u64; 6]) -> u8
 }
 
 pub fn tell_encoded(own: Outcome, delayed: [u8; 4], answer: &mut [u64; 6]) -> u8
-    ensures { λ r. ⌜ Reports (encodedReport own delayed) (now (answer .entry)) (now (answer .exit)) r ⌝ }
+    ensures { λ r. ⌜ Tells (encodedReport own (delaysNumber delayed) (now (answer .entry))) r (now (answer .exit)) ⌝ }
 {
     let next = delays_number(delayed[0], delayed[1], delayed[2], delayed[3]);
     tell_next(own, next, answer)

@@ -1,18 +1,19 @@
 // The entries of the chains, under the names that they have there.
 ghost use mathlib.Core.Path.{_≡_};
 ghost use lib.ListN.{length, take};
+ghost use Rattle.base.specs.Refusal.{outcome, Leaves};
 ghost use Rattle.base.specs.Places.{written};
 ghost use Rattle.errorcontrol_cp.specs.Sending.{Sends as SendsControl};
 ghost use Rattle.errorcontrol_cp.specs.Receiving.{Receives as ReceivesControl};
 ghost use Rattle.errorcontrol_tp.specs.Speech.{slot, secondHalf, supplied, Sends as SendsSpeech, Receives as ReceivesSpeech};
 ghost use Rattle.errorcontrol_aach.specs.Access.{encodeRefusal, encoded, decoded};
 ghost use Rattle.caplattice.specs.Answer.{receivedReport, judgedReport};
-ghost use Rattle.caplattice.specs.Promises.{Answers, Refuses, Leaves};
+ghost use Rattle.caplattice.specs.Promises.{Answers, Tells};
 use super::answer;
 
 #[no_mangle]
 pub extern "C" fn caplattice_encode_cp(kind: u8, start: u32, source: &[u8], target: &mut [u8]) -> u8
-    ensures { λ r. ⌜ Refuses (λ x. SendsControl kind start (now (source .entry)) (now (target .entry)) x (now (target .exit))) r ⌝ }
+    ensures { λ r. ⌜ Answers (λ x. SendsControl kind start (now (source .entry)) (now (target .entry)) x (now (target .exit))) (λ x. x ≡ outcome r) ⌝ }
 {
     answer::refusal_of(errorcontrol_cp::encode_cp(kind, start, source, target))
 }
@@ -26,7 +27,7 @@ pub extern "C" fn caplattice_decode_cp(
     trellis: &mut [u16],
     answer: &mut [u64; 6],
 ) -> u8
-    ensures { λ r. ⌜ Answers receivedReport (λ x. ReceivesControl kind start (now (source .entry)) (now (target .entry)) (now (trellis .entry)) x (now (target .exit)) (now (trellis .exit))) (now (answer .entry)) (now (answer .exit)) r ⌝ }
+    ensures { λ r. ⌜ Answers (λ x. ReceivesControl kind start (now (source .entry)) (now (target .entry)) (now (trellis .entry)) x (now (target .exit)) (now (trellis .exit))) (λ x. Tells (receivedReport x (now (answer .entry))) r (now (answer .exit))) ⌝ }
 {
     answer::tell_received(
         errorcontrol_cp::decode_cp(kind, start, source, target, trellis),
@@ -36,14 +37,14 @@ pub extern "C" fn caplattice_decode_cp(
 
 #[no_mangle]
 pub extern "C" fn caplattice_encode_tp(start: u32, source: &[u8], target: &mut [u8]) -> u8
-    ensures { λ r. ⌜ Refuses (λ x. SendsSpeech 432 (slot start (now (source .entry))) (now (source .entry)) (now (target .entry)) x (now (target .exit))) r ⌝ }
+    ensures { λ r. ⌜ Answers (λ x. SendsSpeech 432 (slot start (now (source .entry))) (now (source .entry)) (now (target .entry)) x (now (target .exit))) (λ x. x ≡ outcome r) ⌝ }
 {
     answer::refusal_of(errorcontrol_tp::encode_tp(start, source, target))
 }
 
 #[no_mangle]
 pub extern "C" fn caplattice_encode_tp_half(start: u32, source: &[u8], target: &mut [u8]) -> u8
-    ensures { λ r. ⌜ Refuses (λ x. SendsSpeech 216 (secondHalf (slot start (now (source .entry)))) (now (source .entry)) (now (target .entry)) x (now (target .exit))) r ⌝ }
+    ensures { λ r. ⌜ Answers (λ x. SendsSpeech 216 (secondHalf (slot start (now (source .entry)))) (now (source .entry)) (now (target .entry)) x (now (target .exit))) (λ x. x ≡ outcome r) ⌝ }
 {
     answer::refusal_of(errorcontrol_tp::encode_tp_half(start, source, target))
 }
@@ -56,7 +57,7 @@ pub extern "C" fn caplattice_decode_tp(
     trellis: &mut [u16],
     answer: &mut [u64; 6],
 ) -> u8
-    ensures { λ r. ⌜ Answers receivedReport (λ x. ReceivesSpeech 432 start (now (source .entry)) (take 432 (now (source .entry))) (now (target .entry)) (now (trellis .entry)) x (now (target .exit)) (now (trellis .exit))) (now (answer .entry)) (now (answer .exit)) r ⌝ }
+    ensures { λ r. ⌜ Answers (λ x. ReceivesSpeech 432 start (now (source .entry)) (take 432 (now (source .entry))) (now (target .entry)) (now (trellis .entry)) x (now (target .exit)) (now (trellis .exit))) (λ x. Tells (receivedReport x (now (answer .entry))) r (now (answer .exit))) ⌝ }
 {
     answer::tell_received(
         errorcontrol_tp::decode_tp(start, source, target, trellis),
@@ -72,7 +73,7 @@ pub extern "C" fn caplattice_decode_tp_half(
     trellis: &mut [u16],
     answer: &mut [u64; 6],
 ) -> u8
-    ensures { λ r. ⌜ Answers receivedReport (λ x. ReceivesSpeech 216 start (now (source .entry)) (supplied (now (source .entry))) (now (target .entry)) (now (trellis .entry)) x (now (target .exit)) (now (trellis .exit))) (now (answer .entry)) (now (answer .exit)) r ⌝ }
+    ensures { λ r. ⌜ Answers (λ x. ReceivesSpeech 216 start (now (source .entry)) (supplied (now (source .entry))) (now (target .entry)) (now (trellis .entry)) x (now (target .exit)) (now (trellis .exit))) (λ x. Tells (receivedReport x (now (answer .entry))) r (now (answer .exit))) ⌝ }
 {
     answer::tell_received(
         errorcontrol_tp::decode_tp_half(start, source, target, trellis),
@@ -82,14 +83,14 @@ pub extern "C" fn caplattice_decode_tp_half(
 
 #[no_mangle]
 pub extern "C" fn caplattice_encode_aach(start: u32, source: &[u8], target: &mut [u8]) -> u8
-    ensures { λ r. ⌜ Refuses (Leaves (encodeRefusal (now (source .entry)) (length (now (target .entry)))) (written (encoded start (now (source .entry))) (now (target .entry))) (now (target .entry)) (now (target .exit))) r ⌝ }
+    ensures { λ r. ⌜ Answers (Leaves (encodeRefusal (now (source .entry)) (length (now (target .entry)))) (written (encoded start (now (source .entry))) (now (target .entry))) (now (target .entry)) (now (target .exit))) (λ x. x ≡ outcome r) ⌝ }
 {
     answer::refusal_of(errorcontrol_aach::encode_aach(start, source, target))
 }
 
 #[no_mangle]
 pub extern "C" fn caplattice_decode_aach(start: u32, source: &[u8], answer: &mut [u64; 6]) -> u8
-    ensures { λ r. ⌜ Answers judgedReport (λ x. x ≡ decoded start (now (source .entry))) (now (answer .entry)) (now (answer .exit)) r ⌝ }
+    ensures { λ r. ⌜ Answers (λ x. x ≡ decoded start (now (source .entry))) (λ x. Tells (judgedReport x (now (answer .entry))) r (now (answer .exit))) ⌝ }
 {
     answer::tell_judged(errorcontrol_aach::decode_aach(start, source), answer)
 }

@@ -2,13 +2,16 @@
 // An encoder's four delays are one number: the newest weighs 1, the next 2^8, then 2^16 and 2^24.
 ghost use mathlib.Core.Path.{_≡_};
 ghost use lib.ListN.{length};
+ghost use Rattle.base.specs.Refusal.{outcome, Leaves};
 ghost use Rattle.base.specs.Places.{written};
-ghost use Rattle.convenc.specs.Generators.{control, controlThird, speech};
+ghost use Rattle.convenc.specs.declared.ConvEncoded.{ConvEncoded};
+ghost use Rattle.convenc.specs.declared.SpeechConvEncoded.{SpeechConvEncoded};
+ghost use Rattle.convenc.specs.Generators.{control, controlThird, speech, Encoded};
 ghost use Rattle.puncturing.specs.Puncturing.{punctureRefusal, punctured, depunctureRefusal, depunctured};
 ghost use Rattle.comparing.specs.Comparing.{compare};
 ghost use Rattle.viterbi.specs.Decoding.{Decodes};
-ghost use Rattle.caplattice.specs.Answer.{comparedReport, decodedReport};
-ghost use Rattle.caplattice.specs.Promises.{Answers, Refuses, Leaves, Encodes};
+ghost use Rattle.caplattice.specs.Answer.{saying, valuedReport, comparedReport, encodedReport, delaysNumber, delaysIn};
+ghost use Rattle.caplattice.specs.Promises.{Answers, Tells};
 use super::answer;
 use convenc::ConvEncState;
 use convenc::SpeechConvEncState;
@@ -20,7 +23,8 @@ pub extern "C" fn caplattice_encode(
     target: &mut [u8],
     answer: &mut [u64; 6],
 ) -> u8
-    ensures { λ r. ⌜ Encodes control delays (now (source .entry)) (now (target .entry)) (now (target .exit)) (now (answer .entry)) (now (answer .exit)) r ⌝ }
+    ensures { λ r. ⌜ Answers (λ (x : ConvEncoded). Encoded control (delaysIn delays) (now (source .entry)) (now (target .entry)) (x .outcome) (x .state .delayed) (now (target .exit)))
+        (λ x. Tells (encodedReport (x .outcome) (delaysNumber (x .state .delayed)) (now (answer .entry))) r (now (answer .exit))) ⌝ }
 {
     let delayed = answer::delays_of(delays);
     let encoder = ConvEncState { delayed: delayed };
@@ -38,7 +42,8 @@ pub extern "C" fn caplattice_encode_rate1_3(
     target: &mut [u8],
     answer: &mut [u64; 6],
 ) -> u8
-    ensures { λ r. ⌜ Encodes controlThird delays (now (source .entry)) (now (target .entry)) (now (target .exit)) (now (answer .entry)) (now (answer .exit)) r ⌝ }
+    ensures { λ r. ⌜ Answers (λ (x : ConvEncoded). Encoded controlThird (delaysIn delays) (now (source .entry)) (now (target .entry)) (x .outcome) (x .state .delayed) (now (target .exit)))
+        (λ x. Tells (encodedReport (x .outcome) (delaysNumber (x .state .delayed)) (now (answer .entry))) r (now (answer .exit))) ⌝ }
 {
     let delayed = answer::delays_of(delays);
     let encoder = ConvEncState { delayed: delayed };
@@ -56,7 +61,8 @@ pub extern "C" fn caplattice_encode_speech(
     target: &mut [u8],
     answer: &mut [u64; 6],
 ) -> u8
-    ensures { λ r. ⌜ Encodes speech delays (now (source .entry)) (now (target .entry)) (now (target .exit)) (now (answer .entry)) (now (answer .exit)) r ⌝ }
+    ensures { λ r. ⌜ Answers (λ (x : SpeechConvEncoded). Encoded speech (delaysIn delays) (now (source .entry)) (now (target .entry)) (x .outcome) (x .state .delayed) (now (target .exit)))
+        (λ x. Tells (encodedReport (x .outcome) (delaysNumber (x .state .delayed)) (now (answer .entry))) r (now (answer .exit))) ⌝ }
 {
     let delayed = answer::delays_of(delays);
     let encoder = SpeechConvEncState { delayed: delayed };
@@ -74,7 +80,7 @@ pub extern "C" fn caplattice_get_punctured_rate(
     n: usize,
     target: &mut [u8],
 ) -> u8
-    ensures { λ r. ⌜ Refuses (Leaves (punctureRefusal mode n (length (now (source .entry))) (length (now (target .entry)))) (written (punctured mode n (now (source .entry))) (now (target .entry))) (now (target .entry)) (now (target .exit))) r ⌝ }
+    ensures { λ r. ⌜ Answers (Leaves (punctureRefusal mode n (length (now (source .entry))) (length (now (target .entry)))) (written (punctured mode n (now (source .entry))) (now (target .entry))) (now (target .entry)) (now (target .exit))) (λ x. x ≡ outcome r) ⌝ }
 {
     answer::refusal_of(puncturing::get_punctured_rate(mode, source, n, target))
 }
@@ -86,7 +92,7 @@ pub extern "C" fn caplattice_tetra_rcpc_depunct(
     n: usize,
     target: &mut [u8],
 ) -> u8
-    ensures { λ r. ⌜ Refuses (Leaves (depunctureRefusal mode n (length (now (source .entry))) (length (now (target .entry)))) (depunctured mode n (now (source .entry)) (now (target .entry))) (now (target .entry)) (now (target .exit))) r ⌝ }
+    ensures { λ r. ⌜ Answers (Leaves (depunctureRefusal mode n (length (now (source .entry))) (length (now (target .entry)))) (depunctured mode n (now (source .entry)) (now (target .entry))) (now (target .entry)) (now (target .exit))) (λ x. x ≡ outcome r) ⌝ }
 {
     answer::refusal_of(puncturing::tetra_rcpc_depunct(mode, source, n, target))
 }
@@ -97,7 +103,7 @@ pub extern "C" fn caplattice_mother_memcmp(
     depunct: &[u8],
     answer: &mut [u64; 6],
 ) -> u8
-    ensures { λ r. ⌜ Answers comparedReport (λ x. x ≡ compare (now (mother .entry)) (now (depunct .entry))) (now (answer .entry)) (now (answer .exit)) r ⌝ }
+    ensures { λ r. ⌜ Answers (λ x. x ≡ compare (now (mother .entry)) (now (depunct .entry))) (λ x. Tells (comparedReport x) r (now (answer .exit))) ⌝ }
 {
     answer::tell_compared(comparing::mother_memcmp(mother, depunct), answer)
 }
@@ -110,7 +116,7 @@ pub extern "C" fn caplattice_dec_sb1(
     trellis: &mut [u16],
     answer: &mut [u64; 6],
 ) -> u8
-    ensures { λ r. ⌜ Answers decodedReport (Decodes control n (now (source .entry)) (now (target .entry)) (now (target .exit)) (now (trellis .entry)) (now (trellis .exit))) (now (answer .entry)) (now (answer .exit)) r ⌝ }
+    ensures { λ r. ⌜ Answers (Decodes control n (now (source .entry)) (now (target .entry)) (now (target .exit)) (now (trellis .entry)) (now (trellis .exit))) (λ x. Tells (valuedReport (λ n. saying 0 0 n 0) x (now (answer .entry))) r (now (answer .exit))) ⌝ }
 {
     answer::tell_decoded(viterbi::dec_sb1(source, target, n, trellis), answer)
 }
@@ -123,7 +129,7 @@ pub extern "C" fn caplattice_dec_speech(
     trellis: &mut [u16],
     answer: &mut [u64; 6],
 ) -> u8
-    ensures { λ r. ⌜ Answers decodedReport (Decodes speech n (now (source .entry)) (now (target .entry)) (now (target .exit)) (now (trellis .entry)) (now (trellis .exit))) (now (answer .entry)) (now (answer .exit)) r ⌝ }
+    ensures { λ r. ⌜ Answers (Decodes speech n (now (source .entry)) (now (target .entry)) (now (target .exit)) (now (trellis .entry)) (now (trellis .exit))) (λ x. Tells (valuedReport (λ n. saying 0 0 n 0) x (now (answer .entry))) r (now (answer .exit))) ⌝ }
 {
     answer::tell_decoded(viterbi::dec_speech(source, target, n, trellis), answer)
 }

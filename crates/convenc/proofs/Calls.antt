@@ -14,7 +14,8 @@ use Rattle.base.specs.Bits.{Bits}
 use Rattle.base.specs.Places.{written}
 use Rattle.base.proofs.BitLaws.{bits-only-yes, bits-only-bits}
 use Rattle.trellis.specs.Nearest.{encode}
-use Rattle.convenc.specs.Generators.{speech, outputs, held, delays, encodeRefusal, Encoded, InTurn}
+use Rattle.base.specs.Digits.{number}
+use Rattle.convenc.specs.Generators.{speech, outputs, delays, encodeRefusal, Encoded, InTurn}
 use Rattle.convenc.proofs.Delays.{Four, four-bits, four-after, held-after}
 use Rattle.trellis.proofs.Encoding.{encode-append}
 use Rattle.convenc.proofs.Refusing.{accepts, refuses-none}
@@ -38,14 +39,14 @@ front-accepted rate n d src dst four some h e =
 -- what an encoder that accepts leaves
 pub encodes : (code : List (List ℕ)) (d src dst : List ℕ) (answer : Outcome) (d′ dst′ : List ℕ) → Encoded code d src dst answer d′ dst′
     → encodeRefusal (length code) d src (length dst) ≡ accepted
-    → (answer ≡ Done) × (d′ ≡ delays d src) × (dst′ ≡ written (encode (outputs code) (held d) src) dst)
+    → (answer ≡ Done) × (d′ ≡ delays d src) × (dst′ ≡ written (encode (outputs code) (number d) src) dst)
 encodes code d src dst answer d′ dst′ e a = (rw a at (e .answered), rw a at (e .state), rw a at (e .target))
 
 -- a call that goes on from where another left off
 pub two-calls : (code : List (List ℕ)) (d v w : List ℕ) → Four d → Bits v
-    → encode (outputs code) (held d) v ++ encode (outputs code) (held (delays d v)) w ≡ encode (outputs code) (held d) (v ++ w)
+    → encode (outputs code) (number d) v ++ encode (outputs code) (number (delays d v)) w ≡ encode (outputs code) (number d) (v ++ w)
 two-calls code d v w f b =
-    ap (λ (s : ℕ). encode (outputs code) (held d) v ++ encode (outputs code) s w) (held-after d v f b) ∙ sym (encode-append (outputs code) (held d) v w)
+    ap (λ (s : ℕ). encode (outputs code) (number d) v ++ encode (outputs code) s w) (held-after d v f b) ∙ sym (encode-append (outputs code) (number d) v w)
 
 -- four delays of an encoder that has taken nothing
 abbrev pub clear : List ℕ
@@ -68,5 +69,5 @@ in-turn v w x x′ y y′ d e f one two new first second open-first open-second 
       before = left .2;
       beyond =
           right .2
-          ∙ ap (λ (s : ℕ). written (encode (outputs speech) s w) y) (ap held (left .1) ∙ held-after clear v clear-four (granted .input));
+          ∙ ap (λ (s : ℕ). written (encode (outputs speech) s w) y) (ap number (left .1) ∙ held-after clear v clear-four (granted .input));
     }

@@ -13,7 +13,8 @@ use borrow.Author.Tests.{ltb-true, ltb-false}
 use Rattle.base.specs.Bits.{Bits, bitsOnly}
 use Rattle.base.proofs.BitLaws.{bits-at, bits-only-bits}
 use Rattle.trellis.specs.Nearest.{after}
-use Rattle.convenc.specs.Generators.{held, delays}
+use Rattle.base.specs.Digits.{number}
+use Rattle.convenc.specs.Generators.{delays}
 use Rattle.convenc.specs.Tapping.{newest}
 
 -- four delays that are bits
@@ -60,13 +61,13 @@ four-one d b f h =
     rw (delays-one d b (f .len))
     (record { len = refl; bits = (h, (bits-at d (f .bits) 0, (bits-at d (f .bits) 1, (bits-at d (f .bits) 2, tt)))) })
 
-held-one : (d : List ℕ) (b : ℕ) → Four d → held (delays d (b ∷ [])) ≡ 8 * b + held d / 2
+held-one : (d : List ℕ) (b : ℕ) → Four d → number (delays d (b ∷ [])) ≡ 8 * b + number d / 2
 held-one d b f =
-    ap held (delays-one d b (f .len))
+    ap number (delays-one d b (f .len))
     ∙ shift (getD d 0 0) (getD d 1 0) (getD d 2 0) (getD d 3 0) (bits-at d (f .bits) 3)
-    ∙ ap (λ (l : List ℕ). 8 * b + held l / 2) (sym (four d (f .len)))
+    ∙ ap (λ (l : List ℕ). 8 * b + number l / 2) (sym (four d (f .len)))
   where
-    shift : (p q r s : ℕ) → s < 2 → held (b ∷ p ∷ q ∷ r ∷ []) ≡ 8 * b + held (p ∷ q ∷ r ∷ s ∷ []) / 2
+    shift : (p q r s : ℕ) → s < 2 → number (b ∷ p ∷ q ∷ r ∷ []) ≡ 8 * b + number (p ∷ q ∷ r ∷ s ∷ []) / 2
     shift p q r s h = omega arith
 
 -- ---- the delays that an input holds itself
@@ -109,9 +110,9 @@ four-after d [] f k = rw (delays-none d (f .len)) f
 four-after d (b ∷ w) f k = subst Four (delays-append d (b ∷ []) w) (four-after (delays d (b ∷ [])) w (four-one d b f (k .0)) (k .1))
 
 -- the delays say the number that the encoder goes on from
-pub held-after : (d w : List ℕ) → Four d → Bits w → held (delays d w) ≡ after (held d) w
-held-after d [] f k = ap held (delays-none d (f .len))
+pub held-after : (d w : List ℕ) → Four d → Bits w → number (delays d w) ≡ after (number d) w
+held-after d [] f k = ap number (delays-none d (f .len))
 held-after d (b ∷ w) f k =
-    ap held (sym (delays-append d (b ∷ []) w))
+    ap number (sym (delays-append d (b ∷ []) w))
     ∙ held-after (delays d (b ∷ [])) w (four-one d b f (k .0)) (k .1)
     ∙ ap (λ (s : ℕ). after s w) (held-one d b f)

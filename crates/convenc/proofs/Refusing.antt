@@ -17,7 +17,8 @@ use Rattle.base.proofs.Refusals.{refused, passed}
 use Rattle.base.specs.declared.Outcome.the-variants.{Done, Refused}
 use Rattle.base.specs.Places.{written}
 use Rattle.trellis.specs.Nearest.{encode}
-use Rattle.convenc.specs.Generators.{encodeRefusal, outputs, held, delays, Encoded}
+use Rattle.base.specs.Digits.{number}
+use Rattle.convenc.specs.Generators.{encodeRefusal, outputs, delays, Encoded}
 
 -- ---- an encoder's refusal
 pub record Accepted (rate : ℕ) (d src : List ℕ) (dst : ℕ) : Type 0 where
@@ -74,13 +75,13 @@ module _ (rate : ℕ) (d src : List ℕ) (dst : ℕ) (some : length src ≡ 0 �
       refuses-none input delayed = rw (fits, input, delayed)
 
 -- ---- an entry's promise, by whether it refuses
-pub encoded-refused : (code : List (List ℕ)) (d src dst : List ℕ) (number : ℕ) → number ≡ encodeRefusal (length code) d src (length dst) → (number ≡ 0 → ⊥)
-    → Encoded code d src dst (Refused number) d dst
-encoded-refused code d src dst number e some =
-    let target = refused number (encodeRefusal (length code) d src (length dst)) (written (encode (outputs code) (held d) src) dst) dst e some in
-    let state = refused number (encodeRefusal (length code) d src (length dst)) (delays d src) d e some in
+pub encoded-refused : (code : List (List ℕ)) (d src dst : List ℕ) (n : ℕ) → n ≡ encodeRefusal (length code) d src (length dst) → (n ≡ 0 → ⊥)
+    → Encoded code d src dst (Refused n) d dst
+encoded-refused code d src dst n e some =
+    let target = refused n (encodeRefusal (length code) d src (length dst)) (written (encode (outputs code) (number d) src) dst) dst e some in
+    let state = refused n (encodeRefusal (length code) d src (length dst)) (delays d src) d e some in
     record { answered = target .0; target = target .1; state = state .1 }
 
 pub encoded-done : (code : List (List ℕ)) (d src dst : List ℕ) {d′ dst′ : List ℕ} → encodeRefusal (length code) d src (length dst) ≡ accepted
-    → (d′ ≡ delays d src) × (dst′ ≡ written (encode (outputs code) (held d) src) dst) → Encoded code d src dst Done d′ dst′
+    → (d′ ≡ delays d src) × (dst′ ≡ written (encode (outputs code) (number d) src) dst) → Encoded code d src dst Done d′ dst′
 encoded-done code d src dst e p = record { answered = rw e; target = rw e (p .1); state = rw e (p .0) }

@@ -18,7 +18,8 @@ use Rattle.base.proofs.BitLaws.{bits-at, bits-only-bits, bits-only-yes}
 use Rattle.base.specs.Refusal.{accepted}
 use Rattle.base.specs.declared.Outcome.the-variants.{Done}
 use Rattle.trellis.specs.Nearest.{encode, after}
-use Rattle.convenc.specs.Generators.{outputs, held, delays, encodeRefusal, Encoded}
+use Rattle.base.specs.Digits.{number}
+use Rattle.convenc.specs.Generators.{outputs, delays, encodeRefusal, Encoded}
 use Rattle.convenc.specs.Tapping.{taps, newest, GoesOn}
 use Rattle.trellis.proofs.Encoding.{encode-append}
 use Rattle.convenc.proofs.Encoding.{encoded-length, outputs-length}
@@ -42,7 +43,7 @@ pub record Running (code : List (List ℕ)) (d₀ src dst₀ : List ℕ) (i at :
   pub fit : i ≤ length src
   pub place : at ≡ length code * i
   pub state : d ≡ delays d₀ (take i src)
-  pub target : dst ≡ written (encode (outputs code) (held d₀) (take i src)) dst₀
+  pub target : dst ≡ written (encode (outputs code) (number d₀) (take i src)) dst₀
 
 pub running-none : (code : List (List ℕ)) (d₀ src dst₀ : List ℕ) → length d₀ ≡ 4 → Running code d₀ src dst₀ 0 0 d₀ dst₀
 running-none code d₀ src dst₀ h = record {
@@ -55,19 +56,19 @@ running-none code d₀ src dst₀ h = record {
 
 module _ {code : List (List ℕ)} {d₀ src dst₀ : List ℕ} {i at : ℕ} {d dst : List ℕ} (run : Running code d₀ src dst₀ i at d dst) where
   -- the target and the delays after the last bit
-  pub running-done : length src ≤ i → (d ≡ delays d₀ src) × (dst ≡ written (encode (outputs code) (held d₀) src) dst₀)
+  pub running-done : length src ≤ i → (d ≡ delays d₀ src) × (dst ≡ written (encode (outputs code) (number d₀) src) dst₀)
   running-done h =
       let all = take-all i src h in
-      (run .state ∙ ap (delays d₀) all, run .target ∙ ap (λ (w : List ℕ). written (encode (outputs code) (held d₀) w) dst₀) all)
+      (run .state ∙ ap (delays d₀) all, run .target ∙ ap (λ (w : List ℕ). written (encode (outputs code) (number d₀) w) dst₀) all)
 
   module _ (accept : encodeRefusal (length code) d₀ src (length dst₀) ≡ accepted) where
-    made : length (encode (outputs code) (held d₀) (take i src)) ≡ length code * i
-    made = encoded-length code (held d₀) (take i src) ∙ ap (λ (n : ℕ). length code * n) (length-take-le i src (run .fit))
+    made : length (encode (outputs code) (number d₀) (take i src)) ≡ length code * i
+    made = encoded-length code (number d₀) (take i src) ∙ ap (λ (n : ℕ). length code * n) (length-take-le i src (run .fit))
 
     pub running-length : length dst ≡ length dst₀
     running-length =
         ap length (run .target)
-        ∙ written-length (encode (outputs code) (held d₀) (take i src)) dst₀
+        ∙ written-length (encode (outputs code) (number d₀) (take i src)) dst₀
         (omega (arith, made, mul-le-mul-left (length code) (run .fit), accepts (length code) d₀ src (length dst₀) accept .room))
 
     -- the outputs of one more bit have room
@@ -93,8 +94,8 @@ module _ {code : List (List ℕ)} {d₀ src dst₀ : List ℕ} {i at : ℕ} {d d
       state = next ∙ ap (λ (l : List ℕ). delays l (b ∷ [])) (run .state) ∙ delays-append d₀ (take i src) (b ∷ []) ∙ ap (delays d₀) (sym longer);
       target =
           stored ∙ ap₂ (λ (l o : List ℕ). sets l at o) (run .target) (taps-outputs code t b d (bits-at src bits i) here)
-          ∙ written-on (encode (outputs code) (held d₀) (take i src)) dst₀ (outputs code (16 * b + held d)) at (run .place ∙ sym made)
-          (omega (arith, made, outputs-length code (16 * b + held d), running-room h, running-length, run .place))
+          ∙ written-on (encode (outputs code) (number d₀) (take i src)) dst₀ (outputs code (16 * b + number d)) at (run .place ∙ sym made)
+          (omega (arith, made, outputs-length code (16 * b + number d), running-room h, running-length, run .place))
           ∙ ap (λ (l : List ℕ). written l dst₀) (sym joined);
     }
       where
@@ -116,12 +117,12 @@ module _ {code : List (List ℕ)} {d₀ src dst₀ : List ℕ} {i at : ℕ} {d d
         here : Four d
         here = subst Four (sym (run .state)) (four-after d₀ (take i src) first before)
 
-        joined : encode (outputs code) (held d₀) (take (i + 1) src) ≡ encode (outputs code) (held d₀) (take i src) ++ outputs code (16 * b + held d)
+        joined : encode (outputs code) (number d₀) (take (i + 1) src) ≡ encode (outputs code) (number d₀) (take i src) ++ outputs code (16 * b + number d)
         joined =
-            ap (encode (outputs code) (held d₀)) longer ∙ encode-append (outputs code) (held d₀) (take i src) (b ∷ [])
-            ∙ ap (λ (l : List ℕ). encode (outputs code) (held d₀) (take i src) ++ l)
-            (append-nil (outputs code (16 * b + after (held d₀) (take i src)))
-            ∙ ap (λ (s : ℕ). outputs code (16 * b + s)) (sym (ap held (run .state) ∙ held-after d₀ (take i src) first before)))
+            ap (encode (outputs code) (number d₀)) longer ∙ encode-append (outputs code) (number d₀) (take i src) (b ∷ [])
+            ∙ ap (λ (l : List ℕ). encode (outputs code) (number d₀) (take i src) ++ l)
+            (append-nil (outputs code (16 * b + after (number d₀) (take i src)))
+            ∙ ap (λ (s : ℕ). outputs code (16 * b + s)) (sym (ap number (run .state) ∙ held-after d₀ (take i src) first before)))
 
 -- ---- delays that are read from the input
 -- before bit i, over the target dst that the loop began with
@@ -132,7 +133,7 @@ pub record Reading (code : List (List ℕ)) (src dst : List ℕ) (i : ℕ) (dst�
   pub idle : length src ≤ 4 → dst′ ≡ dst
   -- what the loop leaves, from any delays and any target that led there
   pub runs : 4 ≤ length src → (d₀ dst₀ : List ℕ) → length d₀ ≡ 4 → encodeRefusal (length code) d₀ src (length dst₀) ≡ accepted
-      → dst ≡ written (encode (outputs code) (held d₀) (take 4 src)) dst₀ → Running code d₀ src dst₀ i (length code * i) (newest src i) dst′
+      → dst ≡ written (encode (outputs code) (number d₀) (take 4 src)) dst₀ → Running code d₀ src dst₀ i (length code * i) (newest src i) dst′
 
 pub reading-none : (code : List (List ℕ)) (src dst : List ℕ) → Reading code src dst 4 dst
 reading-none code src dst = record {
@@ -162,23 +163,23 @@ module _ {code : List (List ℕ)} {src dst : List ℕ} {i : ℕ} {dst′ : List 
   pub reading-done : length src ≤ i → GoesOn code src dst dst′
   reading-done h d old l accept e = go (ltb (length src) 4) refl
     where
-      go : (t : Bool) → ltb (length src) 4 ≡ t → dst′ ≡ written (encode (outputs code) (held d) src) old
+      go : (t : Bool) → ltb (length src) 4 ≡ t → dst′ ≡ written (encode (outputs code) (number d) src) old
       go true t =
           let short = ltb-true (length src) 4 t in
-          r .idle (omega arith) ∙ e ∙ ap (λ (w : List ℕ). written (encode (outputs code) (held d) w) old) (take-all 4 src (omega arith))
+          r .idle (omega arith) ∙ e ∙ ap (λ (w : List ℕ). written (encode (outputs code) (number d) w) old) (take-all 4 src (omega arith))
       go false t = running-done (r .runs (ltb-false (length src) 4 t) d old l accept e) h .1
 
 -- ---- what an entry leaves
 -- an input with no fifth bit is its own front
-pub front-whole : (code : List (List ℕ)) (d src old : List ℕ) {dst : List ℕ} → length src < 4 → dst ≡ written (encode (outputs code) (held d) src) old
-    → dst ≡ written (encode (outputs code) (held d) (take 4 src)) old
-front-whole code d src old h e = e ∙ ap (λ (w : List ℕ). written (encode (outputs code) (held d) w) old) (sym (take-all 4 src (omega arith)))
+pub front-whole : (code : List (List ℕ)) (d src old : List ℕ) {dst : List ℕ} → length src < 4 → dst ≡ written (encode (outputs code) (number d) src) old
+    → dst ≡ written (encode (outputs code) (number d) (take 4 src)) old
+front-whole code d src old h e = e ∙ ap (λ (w : List ℕ). written (encode (outputs code) (number d) w) old) (sym (take-all 4 src (omega arith)))
 
-module _ (code : List (List ℕ)) (d src old : List ℕ) {number : ℕ} (owed : number ≡ encodeRefusal (length code) d src (length old)) (none : number ≡ 0) where
+module _ (code : List (List ℕ)) (d src old : List ℕ) {n : ℕ} (owed : n ≡ encodeRefusal (length code) d src (length old)) (none : n ≡ 0) where
   pub entry-room : length code * length src ≤ length old
   entry-room = accepts (length code) d src (length old) (sym owed ∙ none) .room
 
-  pub entry-done : {d′ dst dst′ : List ℕ} → length d ≡ 4 → (d′ ≡ delays d src) × (dst ≡ written (encode (outputs code) (held d) (take 4 src)) old)
+  pub entry-done : {d′ dst dst′ : List ℕ} → length d ≡ 4 → (d′ ≡ delays d src) × (dst ≡ written (encode (outputs code) (number d) (take 4 src)) old)
       → GoesOn code src dst dst′ → Encoded code d src old Done d′ dst′
   entry-done l first on =
       let accept = sym owed ∙ none in

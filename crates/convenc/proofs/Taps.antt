@@ -10,11 +10,11 @@ use lib.Dec.{T, eqb, eqb→eq}
 use lib.Bits.{bitXor}
 use lib.Seq.{sets, take-length}
 use Rattle.base.specs.Bits.{Bits, both, bitsOnly}
-use Rattle.base.specs.Digits.{digits}
+use Rattle.base.specs.Digits.{digits, number, dot}
 use Rattle.base.proofs.Xor.{xor-bit}
 use Rattle.base.proofs.BitLaws.{bits-at, bits-only-bits}
 use Rattle.base.proofs.Table.{both-left, both-right}
-use Rattle.convenc.specs.Generators.{dot, tapped, outputs, held}
+use Rattle.convenc.specs.Generators.{tapped, outputs}
 use Rattle.convenc.specs.Tapping.{generators, xors, picks, taps}
 use Rattle.convenc.specs.declared.Code.{Code}
 use Rattle.convenc.specs.declared.Code.the-variants as codes
@@ -35,22 +35,22 @@ holds true t = refl
 holds false t = absurd t
 
 -- the window of a bit and four delays, taken apart again
-window : (b p q r s : ℕ) → b < 2 → p < 2 → q < 2 → r < 2 → s < 2 → digits 5 (16 * b + held (p ∷ q ∷ r ∷ s ∷ [])) ≡ b ∷ p ∷ q ∷ r ∷ s ∷ []
+window : (b p q r s : ℕ) → b < 2 → p < 2 → q < 2 → r < 2 → s < 2 → digits 5 (16 * b + number (p ∷ q ∷ r ∷ s ∷ [])) ≡ b ∷ p ∷ q ∷ r ∷ s ∷ []
 window b p q r s hb hp hq hr hs = cc (first, second, third, fourth, fifth)
   where
-    first : (16 * b + held (p ∷ q ∷ r ∷ s ∷ [])) / 16 % 2 ≡ b
+    first : (16 * b + number (p ∷ q ∷ r ∷ s ∷ [])) / 16 % 2 ≡ b
     first = omega arith
 
-    second : (16 * b + held (p ∷ q ∷ r ∷ s ∷ [])) / 8 % 2 ≡ p
+    second : (16 * b + number (p ∷ q ∷ r ∷ s ∷ [])) / 8 % 2 ≡ p
     second = omega arith
 
-    third : (16 * b + held (p ∷ q ∷ r ∷ s ∷ [])) / 4 % 2 ≡ q
+    third : (16 * b + number (p ∷ q ∷ r ∷ s ∷ [])) / 4 % 2 ≡ q
     third = omega arith
 
-    fourth : (16 * b + held (p ∷ q ∷ r ∷ s ∷ [])) / 2 % 2 ≡ r
+    fourth : (16 * b + number (p ∷ q ∷ r ∷ s ∷ [])) / 2 % 2 ≡ r
     fourth = omega arith
 
-    fifth : (16 * b + held (p ∷ q ∷ r ∷ s ∷ [])) / 1 % 2 ≡ s
+    fifth : (16 * b + number (p ∷ q ∷ r ∷ s ∷ [])) / 1 % 2 ≡ s
     fifth = omega arith
 
 -- each generator takes the bit itself, and its coefficients are bits
@@ -72,7 +72,7 @@ picks-dot (zero ∷ cs) (x ∷ d) k = omega (arith, picks-dot cs d (k .1))
 picks-dot (suc zero ∷ cs) (x ∷ d) k = omega (arith, picks-dot cs d (k .1))
 picks-dot (suc (suc c) ∷ cs) (x ∷ d) k = absurd (omega (arith, k .0))
 
-pub taps-outputs : (code : List (List ℕ)) → T (proper code) → (b : ℕ) (d : List ℕ) → b < 2 → Four d → taps code b d ≡ outputs code (16 * b + held d)
+pub taps-outputs : (code : List (List ℕ)) → T (proper code) → (b : ℕ) (d : List ℕ) → b < 2 → Four d → taps code b d ≡ outputs code (16 * b + number d)
 unfolding tapped
 taps-outputs [] t b d h f = refl
 taps-outputs ([] ∷ code) t b d h f = absurd t
@@ -87,13 +87,13 @@ taps-outputs ((c ∷ cs) ∷ code) t b d h f = ap₂ (λ (x : ℕ) (l : List ℕ
     bits : Bits cs
     bits = subst Bits (take-length cs) (bits-only-bits (length cs) cs (holds (bitsOnly (length cs) cs) (both-left (bitsOnly (length cs) cs) (proper code) rest)))
 
-    apart : digits 5 (16 * b + held d) ≡ b ∷ d
+    apart : digits 5 (16 * b + number d) ≡ b ∷ d
     apart =
-        ap (λ (l : List ℕ). digits 5 (16 * b + held l)) (four d (f .len))
+        ap (λ (l : List ℕ). digits 5 (16 * b + number l)) (four d (f .len))
         ∙ window b (getD d 0 0) (getD d 1 0) (getD d 2 0) (getD d 3 0) h (bits-at d (f .bits) 0) (bits-at d (f .bits) 1) (bits-at d (f .bits) 2) (bits-at d (f .bits) 3)
         ∙ ap (λ (l : List ℕ). b ∷ l) (sym (four d (f .len)))
 
-    one : {y : ℕ} → y ≡ dot (c ∷ cs) (digits 5 (16 * b + held d)) % 2 → xors b (picks cs d) ≡ y
+    one : {y : ℕ} → y ≡ dot (c ∷ cs) (digits 5 (16 * b + number d)) % 2 → xors b (picks cs d) ≡ y
     one e =
         xors-sum b (picks cs d) h (picks-bits cs d (f .bits))
         ∙ ap (λ (x : ℕ). x % 2) (ap₂ (λ (x y : ℕ). x + y) (omega (arith, ap (λ (x : ℕ). x * b) leads)) (picks-dot cs d bits))

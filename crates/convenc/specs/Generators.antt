@@ -3,14 +3,14 @@
 use mathlib.Core.Path.{_≡_}
 use mathlib.Core.List.{List, [], _∷_, _++_, map, reverse}
 use mathlib.Core.Bool.{not}
-use Prim.Native.Nat.{ℕ, _+_, _*_, _%_}
+use Prim.Native.Nat.{ℕ, _*_, _%_}
 use lib.Dec.{ltb}
 use lib.ListN.{length, take}
 use Rattle.base.specs.declared.Outcome.{Outcome}
 use Rattle.base.specs.Refusal.{LIMIT, ROOM, BIT, accepted, when, unless, outcome}
 use Rattle.base.specs.Places.{written}
 use Rattle.base.specs.Bits.{bitsOnly}
-use Rattle.base.specs.Digits.{digits, number}
+use Rattle.base.specs.Digits.{digits, number, dot}
 use Rattle.trellis.specs.Nearest.{encode, after}
 
 -- a generator is the list of its coefficients, of D^0 to D^4
@@ -29,11 +29,6 @@ controlThird = take 3 control
 abbrev pub speech : List (List ℕ)
 speech = (1 ∷ 1 ∷ 1 ∷ 1 ∷ 1 ∷ []) ∷ (1 ∷ 1 ∷ 0 ∷ 1 ∷ 1 ∷ []) ∷ (1 ∷ 0 ∷ 1 ∷ 0 ∷ 1 ∷ []) ∷ []
 
-abbrev pub dot : List ℕ → List ℕ → ℕ
-dot [] bs = 0
-dot (g ∷ gs) [] = 0
-dot (g ∷ gs) (b ∷ bs) = g * b + dot gs bs
-
 -- a generator's output for the window x of five bits: the newest bit, of weight 16, and the four before it
 unfoldable pub tapped : List ℕ → ℕ → ℕ
 tapped g x = dot g (digits 5 x) % 2
@@ -41,10 +36,6 @@ tapped g x = dot g (digits 5 x) % 2
 -- the outputs of all generators, in their order
 abbrev pub outputs : List (List ℕ) → ℕ → List ℕ
 outputs gs x = map (λ g. tapped g x) gs
-
--- the four delays, the newest first, as the number that the encoder goes on from
-abbrev pub held : List ℕ → ℕ
-held delayed = number delayed
 
 -- an empty input succeeds whatever the delays hold
 abbrev pub encodeRefusal : ℕ → List ℕ → List ℕ → ℕ → ℕ
@@ -58,10 +49,10 @@ encodeRefusal rate delayed (b ∷ src) dst =
 abbrev pub delays : List ℕ → List ℕ → List ℕ
 delays delayed src = take 4 (reverse src ++ delayed)
 
--- what an encoder of this code answers, hands back and leaves in its target
+-- what an encoder of this code answers, hands back and leaves in its target; it goes on from the number that the delays say, the newest first
 pub record Encoded (code : List (List ℕ)) (delayed src dst : List ℕ) (answer : Outcome) (delayed′ dst′ : List ℕ) : Type 0 where
   pub answered : answer ≡ outcome (encodeRefusal (length code) delayed src (length dst))
-  pub target : dst′ ≡ unless (encodeRefusal (length code) delayed src (length dst)) (written (encode (outputs code) (held delayed) src) dst) dst
+  pub target : dst′ ≡ unless (encodeRefusal (length code) delayed src (length dst)) (written (encode (outputs code) (number delayed) src) dst) dst
   pub state : delayed′ ≡ unless (encodeRefusal (length code) delayed src (length dst)) (delays delayed src) delayed
 
 -- what one new speech encoder leaves in two targets when it is lent to two calls in a row

@@ -10,7 +10,8 @@ use Rattle.base.specs.Places.{written}
 use Rattle.trellis.specs.Nearest.{encode}
 use Rattle.convenc.specs.declared.Code.{Code}
 use Rattle.convenc.specs.declared.Code.the-variants as codes
-use Rattle.convenc.specs.Generators.{control, controlThird, speech, outputs, held, encodeRefusal}
+use Rattle.base.specs.Digits.{number}
+use Rattle.convenc.specs.Generators.{control, controlThird, speech, outputs, encodeRefusal}
 
 abbrev pub generators : Code → List (List ℕ)
 generators codes.Control = control
@@ -42,4 +43,4 @@ newest src i = getD src (i - 1) 0 ∷ getD src (i - 2) 0 ∷ getD src (i - 3) 0 
 -- whatever the delays were before, a target with the code of the first four bits becomes one with the code of all
 abbrev pub GoesOn : List (List ℕ) → List ℕ → List ℕ → List ℕ → Type 0
 GoesOn code src dst dst′ = (d old : List ℕ) → length d ≡ 4 → encodeRefusal (length code) d src (length old) ≡ accepted
-    → dst ≡ written (encode (outputs code) (held d) (take 4 src)) old → dst′ ≡ written (encode (outputs code) (held d) src) old
+    → dst ≡ written (encode (outputs code) (number d) (take 4 src)) old → dst′ ≡ written (encode (outputs code) (number d) src) old

@@ -10,7 +10,8 @@ ghost use lib.Seq.{sets};
 ghost use Rattle.base.specs.Refusal.{accepted};
 ghost use Rattle.base.specs.Places.{written};
 ghost use Rattle.trellis.specs.Nearest.{encode};
-ghost use Rattle.convenc.specs.Generators.{control, controlThird, speech, outputs, held, delays, encodeRefusal, Encoded};
+ghost use Rattle.base.specs.Digits.{number};
+ghost use Rattle.convenc.specs.Generators.{control, controlThird, speech, outputs, delays, encodeRefusal, Encoded};
 ghost use Rattle.convenc.specs.Tapping.{generators, taps, newest, GoesOn};
 use base::BIT;
 use base::LIMIT;
@@ -179,7 +180,7 @@ impl DelayedBits {
     fn encode(self, code: Code, input: &[u8], output: &mut [u8]) -> Self
         requires { ⌜ encodeRefusal (length (generators code)) (self .delayed) (now input) (length (now output)) ≡ accepted ⌝ }
         ensures { λ r. ⌜ (r .delayed ≡ delays (self .delayed) (now (input .entry)))
-            × (now (output .exit) ≡ written (encode (outputs (generators code)) (held (self .delayed)) (now (input .entry))) (now (output .entry))) ⌝ }
+            × (now (output .exit) ≡ written (encode (outputs (generators code)) (number (self .delayed)) (now (input .entry))) (now (output .entry))) ⌝ }
     {
         let rate = get_rate(code);
         let mut s = self;
@@ -200,7 +201,7 @@ impl DelayedBits {
     fn encode_first(self, code: Code, input: &[u8], output: &mut [u8]) -> Self
         requires { ⌜ encodeRefusal (length (generators code)) (self .delayed) (now input) (length (now output)) ≡ accepted ⌝ }
         ensures { λ r. ⌜ (r .delayed ≡ delays (self .delayed) (now (input .entry)))
-            × (now (output .exit) ≡ written (encode (outputs (generators code)) (held (self .delayed)) (take 4 (now (input .entry)))) (now (output .entry))) ⌝ }
+            × (now (output .exit) ≡ written (encode (outputs (generators code)) (number (self .delayed)) (take 4 (now (input .entry)))) (now (output .entry))) ⌝ }
     {
         if input.len() < 4 {
             return self.encode(code, input, output);

@@ -3,7 +3,6 @@
 use mathlib.Core.Path.{_≡_, refl, sym, ap, _∙_}
 use mathlib.Core.List.{List, [], _∷_, _++_}
 use Prim.Native.Nat.{ℕ, _+_, _*_, _/_, _%_, _≤_, _<_}
-use mathlib.Core.Bool.{Bool}
 use borrow.Author.Tests.{lt-ltb, le-ltb}
 use native.Mathlib.Numerals.{add-one}
 use native.Mathlib.Omega.{arith}
@@ -11,9 +10,10 @@ use lib.Bits.{xor-lt}
 use lib.ListN.{length, take, getD}
 use lib.Seq.{take-suc, take-all}
 use Rattle.base.proofs.Lists.{tabulate-more}
-use Rattle.base.specs.Refusal.{SHORT, accepted, when}
-use Rattle.crc16.specs.declared.Register.the-variants.{Value, Refused}
-use Rattle.crc16.specs.Crc.{GENERATOR, step, register, bitOf, bitsOf, answer, bytesAnswer}
+use Rattle.base.specs.declared.Valued.the-variants.{Value, Refused}
+use Rattle.base.specs.Refusal.{SHORT, valued}
+use Rattle.base.specs.Places.{tabulate}
+use Rattle.crc16.specs.Crc.{GENERATOR, step, register, bitOf, bytesRefusal}
 
 pub step-lt : (reg b : ℕ) → step reg b < 65536
 unfolding step
@@ -48,10 +48,10 @@ entry-more crc reg r i s h p q =
     q ∙ ap (λ (x : ℕ). step x (getD s i 0)) p ∙ sym (register-more crc (take i s) (getD s i 0))
     ∙ ap (register crc) (sym (rw (add-one, take-suc s i 0)))
 
-pub packed-more : (crc reg r i b : ℕ) (s : List ℕ) → reg ≡ register crc (bitsOf s i) → b ≡ bitOf s i → r ≡ step reg b
-    → r ≡ register crc (bitsOf s (i + 1))
+pub packed-more : (crc reg r i b : ℕ) (s : List ℕ) → reg ≡ register crc (tabulate (bitOf s) i) → b ≡ bitOf s i → r ≡ step reg b
+    → r ≡ register crc (tabulate (bitOf s) (i + 1))
 packed-more crc reg r i b s p o q =
-    q ∙ ap (step reg) o ∙ ap (λ (x : ℕ). step x (bitOf s i)) p ∙ sym (register-more crc (bitsOf s i) (bitOf s i))
+    q ∙ ap (step reg) o ∙ ap (λ (x : ℕ). step x (bitOf s i)) p ∙ sym (register-more crc (tabulate (bitOf s) i) (bitOf s i))
     ∙ ap (register crc) (sym (tabulate-more (bitOf s) i))
 
 -- two counts past the end take the same entries
@@ -59,9 +59,8 @@ pub take-past : (s : List ℕ) (i n : ℕ) → length s ≤ i → i ≤ n → ta
 take-past s i n h k = take-all i s h ∙ sym (take-all n s (omega arith))
 
 -- ---- the byte form's answers
-pub bytes-short : (reg : ℕ) (s : List ℕ) (n : ℕ) → 8 * length s < n → Refused SHORT ≡ bytesAnswer reg s n
-bytes-short reg s n h = ap (λ (t : Bool). answer (when t SHORT accepted) (register reg (bitsOf s n))) (sym (lt-ltb (8 * length s) n h))
+pub bytes-short : (s : List ℕ) (n value : ℕ) → 8 * length s < n → Refused SHORT ≡ valued (bytesRefusal s n) value
+bytes-short s n value h = rw (lt-ltb (8 * length s) n h)
 
-pub bytes-enough : (reg : ℕ) (s : List ℕ) (n r : ℕ) → n ≤ 8 * length s → r ≡ register reg (bitsOf s n) → Value r ≡ bytesAnswer reg s n
-bytes-enough reg s n r h e =
-    ap Value e ∙ ap (λ (t : Bool). answer (when t SHORT accepted) (register reg (bitsOf s n))) (sym (le-ltb (8 * length s) n h))
+pub bytes-enough : (s : List ℕ) (n r value : ℕ) → n ≤ 8 * length s → r ≡ value → Value r ≡ valued (bytesRefusal s n) value
+bytes-enough s n r value h e = rw (le-ltb (8 * length s) n h) (ap Value e)

@@ -1,15 +1,12 @@
 -- The check register of ITU-T, a bit at a time, and the control check of EN 300 392-2, 8.2.3.3.
 -- Assumes nothing.
-use mathlib.Core.List.{List, [], _∷_}
-use Prim.Native.Nat.{ℕ, zero, suc, _+_, _-_, _*_, _/_, _%_, _^_}
+use mathlib.Core.List.{List, foldl}
+use Prim.Native.Nat.{ℕ, _+_, _-_, _*_, _/_, _%_, _^_}
 use lib.Bits.{bitXor}
 use lib.Dec.{ltb}
 use lib.ListN.{length, getD}
 use Rattle.base.specs.Refusal.{SHORT, accepted, when}
 use Rattle.base.specs.Digits.{digits}
-use Rattle.base.specs.Places.{tabulate}
-use Rattle.crc16.specs.declared.Register.{Register}
-use Rattle.crc16.specs.declared.Register.the-variants.{Value, Refused}
 
 -- the generator without its top term
 abbrev pub GENERATOR : ℕ
@@ -25,29 +22,15 @@ step reg b = bitXor (reg * 2 % 65536) ((reg / 32768 + b) % 2 * GENERATOR)
 
 -- the register after the bits, each the lowest bit of its entry
 unfoldable pub register : ℕ → List ℕ → ℕ
-register reg [] = reg
-register reg (b ∷ bs) = register (step reg b) bs
+register = foldl step
 
 -- bit i of bytes, the most significant of each first
 abbrev pub bitOf : List ℕ → ℕ → ℕ
 bitOf bytes i = getD bytes (i / 8) 0 / 2 ^ (7 - i % 8) % 2
 
--- the first n bits of bytes
-abbrev pub bitsOf : List ℕ → ℕ → List ℕ
-bitsOf bytes n = tabulate (bitOf bytes) n
-
 -- the byte form is SHORT past 8 times the length
 abbrev pub bytesRefusal : List ℕ → ℕ → ℕ
 bytesRefusal bytes n = when (ltb (8 * length bytes) n) SHORT accepted
-
--- the answer that carries a register
-abbrev pub answer : ℕ → ℕ → Register
-answer zero value = Value value
-answer (suc number) value = Refused (suc number)
-
--- the byte form: the register after the first n bits of bytes, unless they are short
-abbrev pub bytesAnswer : ℕ → List ℕ → ℕ → Register
-bytesAnswer reg bytes n = answer (bytesRefusal bytes n) (register reg (bitsOf bytes n))
 
 -- the 16 check bits of data: register from all ones, complemented, most significant bit first
 unfoldable pub check : List ℕ → List ℕ

@@ -4,19 +4,16 @@
 ghost use mathlib.Core.Path.{_≡_};
 ghost use Prim.Native.Nat.{_*_, _/_, _≤_, _<_};
 ghost use lib.ListN.{length, take};
-ghost use Rattle.crc16.specs.Crc.{step, register, bitOf, bitsOf, bytesAnswer};
+ghost use Rattle.base.specs.Refusal.{valued};
+ghost use Rattle.base.specs.Places.{tabulate};
+ghost use Rattle.crc16.specs.Crc.{step, register, bitOf, bytesRefusal};
 use base::SHORT;
+use base::Valued;
 
 // The generator without its top term.
 pub const GEN_POLY: u16 = 0x1021;
 // What data and its check leave in a register that began at 0xffff.
 pub const TETRA_CRC_OK: u16 = 0x1d0f;
-
-// What the byte form answers.
-pub enum Register {
-    Value(u16),
-    Refused(u8),
-}
 
 pub mod inner;
 
@@ -55,7 +52,7 @@ pub fn crc16_itut_bits(crc: u16, input: &[u8], number_bits: usize) -> u16
 // The register after the first number_bits bits of packed bytes that hold as many.
 fn packed_bits(crc: u16, input: &[u8], number_bits: usize) -> u16
     requires { ⌜ «number_bits» ≤ 8 * length (now input) ⌝ }
-    ensures { λ r. ⌜ r ≡ register crc (bitsOf (now (input .entry)) «number_bits») ⌝ }
+    ensures { λ r. ⌜ r ≡ register crc (tabulate (bitOf (now (input .entry))) «number_bits») ⌝ }
 {
     let mut reg = crc;
     let mut i: usize = 0;
@@ -67,15 +64,15 @@ fn packed_bits(crc: u16, input: &[u8], number_bits: usize) -> u16
 }
 
 // The register after the first number_bits bits of packed bytes, the most significant of each first; SHORT past their end.
-pub fn crc16_itut_bytes(crc: u16, input: &[u8], number_bits: usize) -> Register
-    ensures { λ r. ⌜ r ≡ bytesAnswer crc (now (input .entry)) «number_bits» ⌝ }
+pub fn crc16_itut_bytes(crc: u16, input: &[u8], number_bits: usize) -> Valued
+    ensures { λ r. ⌜ r ≡ valued (bytesRefusal (now (input .entry)) «number_bits») (register crc (tabulate (bitOf (now (input .entry))) «number_bits»)) ⌝ }
 {
     // Eight times the length need not fit, so the bytes that are needed are counted instead.
     let needed = number_bits / 8 + (number_bits % 8 + 7) / 8;
     if input.len() < needed {
-        return Register::Refused(SHORT);
+        return Valued::Refused(SHORT);
     }
-    Register::Value(packed_bits(crc, input, number_bits))
+    Valued::Value(packed_bits(crc, input, number_bits) as usize)
 }
 
 // The register that TETRA starts at 0xffff, after the first len entries.

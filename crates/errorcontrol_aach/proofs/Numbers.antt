@@ -11,10 +11,10 @@ use lib.ListN.{length, take, getD, set, length-set}
 use lib.Pow.{pow-pos, pow-lt, pow-mono}
 use lib.Seq.{take-suc, getD-take, length-take-le}
 use Rattle.base.specs.Bits.{Bits, bitsOnly}
-use Rattle.base.specs.Digits.{digits, numberFrom, number}
+use Rattle.base.specs.Digits.{digits, number}
 use Rattle.base.specs.Places.{tabulate, written}
 use Rattle.base.proofs.BitLaws.{bits-of, bits-only-at}
-use Rattle.base.proofs.DigitLaws.{digits-length, digits-at, number-cons, number-lt}
+use Rattle.base.proofs.DigitLaws.{digits-length, digits-at, numberFrom, number-cons, number-lt}
 use Rattle.base.proofs.Lists.{tabulate-length, tabulate-of, written-whole}
 use Rattle.linear.specs.Linear.{turned}
 use Rattle.errorcontrol_aach.specs.Access.{flipped}

@@ -16,7 +16,8 @@ use Rattle.base.proofs.Lists.{written-whole}
 use Rattle.base.proofs.Moves.{gather-length, scatter-length, scatter-over}
 use Rattle.trellis.specs.Nearest.{encode}
 use Rattle.trellis.proofs.Words.{zeros-bits}
-use Rattle.convenc.specs.Generators.{control, outputs, held, encodeRefusal}
+use Rattle.base.specs.Digits.{number}
+use Rattle.convenc.specs.Generators.{control, outputs, encodeRefusal}
 use Rattle.puncturing.specs.Puncturing.{keptPlace, needed, punctureRefusal, depunctureRefusal, punctured, depunctured}
 use Rattle.convenc.proofs.Encoding.{encoded-length}
 use Rattle.convenc.proofs.Calls.{encode-accepts}
@@ -56,11 +57,11 @@ module _ (count : ℕ) (source word : List ℕ) (long : count ≤ length source)
   pub mother-made : (work delayed mother mother′ : List ℕ) → count ≤ 268 → bitsOnly count source ≡ true → delayed ≡ 0 ∷ 0 ∷ 0 ∷ 0 ∷ []
       → length mother ≡ 4 * (count + 20)
       → mother′ ≡ unless (encodeRefusal 4 delayed (take (count + 20) (word ++ drop (count + 20) work)) (length mother))
-      (written (encode (outputs control) (held delayed) (take (count + 20) (word ++ drop (count + 20) work))) mother) mother
+      (written (encode (outputs control) (number delayed) (take (count + 20) (word ++ drop (count + 20) work))) mother) mother
       → mother′ ≡ encode (outputs control) 0 (wordOf (take count source))
   mother-made work delayed mother mother′ most plain fresh size e =
       e
-      ∙ ap₂ (λ (d w : List ℕ). unless (encodeRefusal 4 d w (length mother)) (written (encode (outputs control) (held d) w) mother) mother) fresh
+      ∙ ap₂ (λ (d w : List ℕ). unless (encodeRefusal 4 d w (length mother)) (written (encode (outputs control) (number d) w) mother) mother) fresh
       (front (count + 20) word work word-size)
       ∙ unless-none (encodeRefusal 4 (0 ∷ 0 ∷ 0 ∷ 0 ∷ []) word (length mother)) (written (encode (outputs control) 0 word) mother) mother
       (encode-accepts 4 (0 ∷ 0 ∷ 0 ∷ 0 ∷ []) word (length mother) (omega (arith, word-size)) (omega (arith, word-size))

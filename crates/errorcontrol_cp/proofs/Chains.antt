@@ -22,8 +22,8 @@ use Rattle.puncturing.specs.Puncturing.{needed, punctured, depunctured}
 use Rattle.convenc.proofs.Encoding.{encoded-bits, encoded-length}
 use Rattle.interleaver.specs.Interleaving.{shared, interleaved, deinterleaved}
 use Rattle.scrambler.specs.Scrambling.{scrambled, descrambled}
-use Rattle.viterbi.specs.declared.Decoded.{Decoded}
-use Rattle.viterbi.specs.declared.Decoded.the-variants as viterbi
+use Rattle.base.specs.declared.Valued.{Valued}
+use Rattle.base.specs.declared.Valued.the-variants as values
 use Rattle.viterbi.specs.Decoding.{decoded, disagreements, decodeRefusal, cleared, Decodes}
 use Rattle.viterbi.proofs.Refusals.{none}
 use Rattle.errorcontrol_cp.specs.Kinds.{isKind, dataBits, airSymbols, interleaverStep, Numbers}
@@ -125,7 +125,7 @@ receivable kind air word trellis d n k a ok is =
     }
 
 -- the decoder does not refuse n steps, and its word is judged by its data and check
-module _ (count n : ℕ) (symbols word word′ trellis trellis′ : List ℕ) (r : Decoded) (most : count ≤ 268) (tail : count + 20 ≡ n)
+module _ (count n : ℕ) (symbols word word′ trellis trellis′ : List ℕ) (r : Valued) (most : count ≤ 268) (tail : count + 20 ≡ n)
     (size : length symbols ≡ 4 * n) (room : n ≤ length word) (steps : n ≤ length trellis) (does : Decodes control n symbols word word′ trellis trellis′ r) where
   unrefused : decodeRefusal control n (length symbols) (length trellis) (length word) ≡ 0
   unrefused = sym (none n (length symbols) (length trellis) (length word) 4 control refl (omega arith) (omega arith) steps room)
@@ -139,10 +139,10 @@ module _ (count n : ℕ) (symbols word word′ trellis trellis′ : List ℕ) (r
       ∙ take-append-le (count + 16) (decoded control n symbols) (drop (length (decoded control n symbols)) word)
       (omega (arith, nearest-length (disagreements control n symbols) n))
 
-  answer-is : r ≡ viterbi.Word (disagreements control n symbols (decoded control n symbols))
+  answer-is : r ≡ values.Value (disagreements control n symbols (decoded control n symbols))
   answer-is = rw unrefused at (does .answers)
 
-  pub settled : (value : ℕ) (answer : Received) → r ≡ viterbi.Word value
+  pub settled : (value : ℕ) (answer : Received) → r ≡ values.Value value
       → answer ≡ checked (eqb (register 0xffff (take (count + 16) word′)) OK) (record { disagreements = value })
       → (answer ≡ checked (eqb (register 0xffff (take (count + 16) (decoded control n symbols))) OK)
       (record { disagreements = disagreements control n symbols (decoded control n symbols) }))
@@ -154,7 +154,7 @@ module _ (count n : ℕ) (symbols word word′ trellis trellis′ : List ℕ) (r
         rw unrefused at (does .clears),
       )
 
-  pub never-refused : (number : ℕ) → r ≡ viterbi.Refused number → ⊥
+  pub never-refused : (number : ℕ) → r ≡ values.Refused number → ⊥
   never-refused number e = let z : _≡_ {A = ℕ} 0 1 = cc answer-is in omega arith
 
 -- the mother symbols stand over the front of erasures

@@ -215,8 +215,8 @@ fn settle(count: usize, n: usize, mother: &[u8], word: &mut [u8], trellis: &mut 
 {
     let answer = viterbi::dec_sb1(mother, word, n, trellis);
     match answer {
-        viterbi::Decoded::Word(disagreements) => verdict(count, word, disagreements),
-        viterbi::Decoded::Refused(number) => Received::Refused(number),
+        base::Valued::Value(disagreements) => verdict(count, word, disagreements),
+        base::Valued::Refused(number) => Received::Refused(number),
     }
 }
 

@@ -29,8 +29,8 @@ use Rattle.speech_crc.proofs.Shape.{check-bits}
 use Rattle.base.specs.declared.Received.{Received}
 use Rattle.base.specs.Refusal.{checked}
 use Rattle.trellis.proofs.Winners.{nearest-length}
-use Rattle.viterbi.specs.declared.Decoded.{Decoded}
-use Rattle.viterbi.specs.declared.Decoded.the-variants.{Word, Refused}
+use Rattle.base.specs.declared.Valued.{Valued}
+use Rattle.base.specs.declared.Valued.the-variants.{Value, Refused}
 use Rattle.viterbi.specs.Decoding.{decodeRefusal, Decodes, decoded, disagreements, cleared}
 use Rattle.errorcontrol_tp.specs.Speech.{uncoded, speechWord, codedOf, motherOf, onAir, slot, blockOf, wordOf, slotDisagreements, sameBits, isGood, countsOf, codecBits, readBit, supplied}
 use Rattle.errorcontrol_tp.proofs.Mother.{bits-take, mother-long}
@@ -225,7 +225,7 @@ copied-over n symbols air q e h p =
     ap₂ (λ (x : List ℕ) (k : ℕ). x ++ drop k air) (p ∙ take-all (length (take n air)) symbols (omega (arith, length-take-le n air h))) (sym e)
 
 -- ---- the slot that is received
-module _ (start : ℕ) (slot block mother blank word trellis trellis′ : List ℕ) (answer : Decoded) (steps : 184 ≤ length trellis)
+module _ (start : ℕ) (slot block mother blank word trellis trellis′ : List ℕ) (answer : Valued) (steps : 184 ≤ length trellis)
     (b : block ≡ blockOf start slot) (m : mother ≡ motherOf block) (room : length blank ≡ 184)
     (call : Decodes speech 184 mother blank word trellis trellis′ answer) where
   mother-whole : length mother ≡ 552
@@ -244,14 +244,14 @@ module _ (start : ℕ) (slot block mother blank word trellis trellis′ : List �
       (nearest-length (disagreements speech 184 mother) 184 ∙ sym room) (call .writes)
       ∙ ap (decoded speech 184) mother-same
 
-  answer-is : answer ≡ Word (disagreements speech 184 mother (decoded speech 184 mother))
+  answer-is : answer ≡ Value (disagreements speech 184 mother (decoded speech 184 mother))
   answer-is = rw decode-free at (call .answers)
 
-  pub count-decoded : (n : ℕ) → answer ≡ Word n → n ≡ slotDisagreements start slot
+  pub count-decoded : (n : ℕ) → answer ≡ Value n → n ≡ slotDisagreements start slot
   unfolding slotDisagreements wordOf
   count-decoded n e = number n (sym e ∙ answer-is) ∙ ap (λ (l : List ℕ). disagreements speech 184 l (decoded speech 184 l)) mother-same
     where
-      number : (n : ℕ) {k : ℕ} → Word n ≡ Word k → n ≡ k
+      number : (n : ℕ) {k : ℕ} → Value n ≡ Value k → n ≡ k
       number n q = cc
 
   pub trellis-cleared : trellis′ ≡ written (replicate 184 0) trellis
@@ -261,7 +261,7 @@ module _ (start : ℕ) (slot block mother blank word trellis trellis′ : List �
   pub never-refused : {A : Type 0} (number : ℕ) → answer ≡ Refused number → A
   never-refused number e = absurd (other number (sym e ∙ answer-is))
     where
-      other : (n : ℕ) {k : ℕ} → Refused n ≡ Word k → ⊥
+      other : (n : ℕ) {k : ℕ} → Refused n ≡ Value k → ⊥
       other n q = let z : _≡_ {A = ℕ} 0 1 = cc in omega arith
 
 pub verdict-is : (start : ℕ) (slot word : List ℕ) (n : ℕ) (answer : Received) → word ≡ wordOf start slot → n ≡ slotDisagreements start slot

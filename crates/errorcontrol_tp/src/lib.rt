@@ -21,8 +21,8 @@ use base::Outcome;
 use base::ROOM;
 use base::Received;
 use base::SHORT;
+use base::Valued;
 use base::inner::copy;
-use viterbi::Decoded;
 
 // Which refusal sending owes, 0 for none.
 fn send_refusal(count: usize, codec: &[u8], air: usize) -> u8
@@ -225,8 +225,8 @@ fn receive(start: u32, slot: &[u8], codec: &mut [u8], trellis: &mut [u16]) -> Re
     let mut word = [0u8; 184];
     let decoded = viterbi::dec_speech(&mother, &mut word, 184, trellis);
     match decoded {
-        Decoded::Word(disagreements) => deliver(block, word, disagreements, codec),
-        Decoded::Refused(number) => Received::Refused(number),
+        Valued::Value(disagreements) => deliver(block, word, disagreements, codec),
+        Valued::Refused(number) => Received::Refused(number),
     }
 }
 

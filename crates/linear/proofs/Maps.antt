@@ -10,9 +10,9 @@ use lib.Bits.{bitAnd, bitXor, and-mask, xor-shr, xor-zero-r, xor-self, xor-lt, x
 use lib.ListN.{length, getD, drop, length-drop, length-append, length-map, replicate}
 use lib.Pow.{pow-lt, pow-pos, shr-shr, field, mod-mod-pow, mod-pow-add}
 use lib.Seq.{drop-cons, drop-length}
-use Rattle.base.specs.Digits.{digits}
+use Rattle.base.specs.Digits.{digits, dot}
 use Rattle.base.proofs.Xor.{xor-odd, xor-assoc, xor-swap}
-use Rattle.linear.specs.Linear.{chosen, image, units, dot}
+use Rattle.linear.specs.Linear.{chosen, image, units}
 
 -- ---- bits
 bit-lt : (n k : ℕ) → n / 2 ^ k % 2 < 2

@@ -4,7 +4,7 @@
 use mathlib.Core.List.{List, [], _∷_}
 use mathlib.Core.Bool.{cond}
 use mathlib.Core.Path.{_≡_}
-use Prim.Native.Nat.{ℕ, zero, suc, _+_, _-_, _*_, _/_, _%_, _^_, _≤_, _<_}
+use Prim.Native.Nat.{ℕ, zero, suc, _+_, _-_, _/_, _%_, _^_, _≤_, _<_}
 use lib.Bits.{bitXor}
 use lib.Dec.{eqb}
 use lib.ListN.{length, getD}
@@ -23,12 +23,6 @@ image (c ∷ cs) word = bitXor (chosen (word / 2 ^ length cs % 2) c) (image cs w
 abbrev pub units : ℕ → List ℕ
 units zero = []
 units (suc n) = 2 ^ n ∷ units n
-
--- the sum of the products of two lists' entries, place by place
-abbrev pub dot : List ℕ → List ℕ → ℕ
-dot [] ys = 0
-dot (x ∷ xs) [] = 0
-dot (x ∷ xs) (y ∷ ys) = x * y + dot xs ys
 
 -- the word of n bits with the bit at the place turned
 abbrev pub turned : ℕ → ℕ → ℕ → ℕ

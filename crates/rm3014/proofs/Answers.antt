@@ -8,10 +8,8 @@ use lib.Dec.{leb}
 use borrow.Author.Tests.{leb-false}
 use Rattle.base.specs.Refusal.{WORD, accepted, when}
 use Rattle.rm3014.specs.declared.Verdict.{Verdict}
-use Rattle.rm3014.specs.declared.Coded.the-variants as code
-use Rattle.rm3014.specs.declared.Reading.the-variants as read
-use Rattle.rm3014.specs.declared.Judged.the-variants as judge
-use Rattle.rm3014.specs.Verdict.{coded, reading, judged}
+use Rattle.rm3014.specs.declared.Judged.the-variants.{Refused}
+use Rattle.rm3014.specs.Verdict.{judged}
 
 -- a number that is not refused is below the limit
 pub below-limit : (limit n : ℕ) → when (leb limit n) WORD accepted ≡ accepted → n < limit
@@ -21,14 +19,6 @@ below-limit limit n e = go (leb limit n) refl e
     go true f e = absurd (omega arith)
     go false f e = leb-false limit n f
 
-pub coded-refused : (number word : ℕ) → (number ≡ 0 → ⊥) → code.Refused number ≡ coded number word
-coded-refused zero word h = absurd (h refl)
-coded-refused (suc number) word h = refl
-
-pub reading-refused : (number bits : ℕ) → (number ≡ 0 → ⊥) → read.Refused number ≡ reading number bits
-reading-refused zero bits h = absurd (h refl)
-reading-refused (suc number) bits h = refl
-
-pub judged-refused : (number : ℕ) (v : Verdict) → (number ≡ 0 → ⊥) → judge.Refused number ≡ judged number v
+pub judged-refused : (number : ℕ) (v : Verdict) → (number ≡ 0 → ⊥) → Refused number ≡ judged number v
 judged-refused zero v h = absurd (h refl)
 judged-refused (suc number) v h = refl

@@ -12,11 +12,11 @@ use lib.ListN.{length, getD}
 use lib.Pow.{pow-add, pow-pos, pow-lt, shl-shr, shr-shr, split}
 use borrow.Author.Tests.{ltb-true, ltb-false}
 use Rattle.base.specs.Bits.{both}
-use Rattle.base.specs.Digits.{digits}
+use Rattle.base.specs.Digits.{digits, dot}
 use Rattle.base.specs.Places.{tabulate}
 use Rattle.base.proofs.Lists.{tabulate-length, tabulate-at, tabulate-same}
 use Rattle.base.proofs.Table.{at, both-left, both-right}
-use Rattle.linear.specs.Linear.{chosen, image, dot, placeFrom}
+use Rattle.linear.specs.Linear.{chosen, image, placeFrom}
 use Rattle.linear.proofs.Maps.{xor-bit-at, low-bit, mod-more, image-append, image-bit, image-lt}
 use Rattle.rm3014.specs.Code.{table, upwards, columns, syndrome, placeOf}
 use Rattle.rm3014.specs.Verdict.{verdict, byPlace, bySyndrome, bitsIn}

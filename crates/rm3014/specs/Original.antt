@@ -7,9 +7,8 @@ use Prim.Native.Nat.{ℕ, _+_, _-_, _/_, _%_, _^_}
 use lib.Bits.{bitXor}
 use lib.Dec.{eqb}
 use lib.ListN.{length, getD}
-use Rattle.base.specs.Digits.{digits}
+use Rattle.base.specs.Digits.{digits, dot}
 use Rattle.base.specs.Places.{tabulate}
-use Rattle.linear.specs.Linear.{dot}
 use Rattle.rm3014.specs.Code.{table, upwards, columns, dataOf}
 
 -- check j: the sum mod 2 of the data bits in column j of the table, and of parity bit j

@@ -7,12 +7,8 @@ use Rattle.linear.specs.Linear.{turned}
 use Rattle.rm3014.specs.Code.{dataOf, syndrome, placeOf}
 use Rattle.rm3014.specs.declared.Verdict.{Verdict}
 use Rattle.rm3014.specs.declared.Verdict.the-variants.{Clean, Mended, Beyond}
-use Rattle.rm3014.specs.declared.Coded.{Coded}
-use Rattle.rm3014.specs.declared.Coded.the-variants as code
-use Rattle.rm3014.specs.declared.Reading.{Reading}
-use Rattle.rm3014.specs.declared.Reading.the-variants as read
 use Rattle.rm3014.specs.declared.Judged.{Judged}
-use Rattle.rm3014.specs.declared.Judged.the-variants as judge
+use Rattle.rm3014.specs.declared.Judged.the-variants.{Is, Refused}
 
 -- Mended at the place, with that bit turned; Beyond where there is no place
 abbrev pub byPlace : ℕ → ℕ → Verdict
@@ -43,15 +39,7 @@ inputRefusal input = when (leb (2 ^ 14) input) WORD accepted
 abbrev pub wordRefusal : ℕ → ℕ
 wordRefusal word = when (leb (2 ^ 30) word) WORD accepted
 
--- ---- answers: the value where nothing is refused, and otherwise the number of the refusal
-abbrev pub coded : ℕ → ℕ → Coded
-coded zero word = code.Word word
-coded (suc number) word = code.Refused (suc number)
-
-abbrev pub reading : ℕ → ℕ → Reading
-reading zero bits = read.Bits bits
-reading (suc number) bits = read.Refused (suc number)
-
+-- the verdict where nothing is refused, and otherwise the number of the refusal
 abbrev pub judged : ℕ → Verdict → Judged
-judged zero v = judge.Is v
-judged (suc number) v = judge.Refused (suc number)
+judged zero v = Is v
+judged (suc number) v = Refused (suc number)

@@ -5,8 +5,10 @@ ghost use mathlib.Core.Path.{_≡_};
 ghost use mathlib.Core.List.{[]};
 ghost use Prim.Native.Nat.{_<_};
 ghost use lib.ListN.{getD};
+ghost use Rattle.base.specs.Refusal.{valued};
 ghost use Rattle.rm3014.specs.Code.{table, codeWord, upwards, columns, syndrome, dataOf};
-ghost use Rattle.rm3014.specs.Verdict.{verdict, coded, reading, judged, inputRefusal, wordRefusal};
+ghost use Rattle.rm3014.specs.Verdict.{verdict, judged, inputRefusal, wordRefusal};
+use base::Valued;
 use base::WORD;
 
 pub mod inner;
@@ -81,18 +83,6 @@ pub const COL_SYNDROMES: [u16; 30] = [
     0x8000,
 ];
 
-// A code word, or the number of the refusal.
-pub enum Coded {
-    Word(u32),
-    Refused(u8),
-}
-
-// Bits that a received word holds, or the number of the refusal.
-pub enum Reading {
-    Bits(u16),
-    Refused(u8),
-}
-
 // What was found in a received word: no wrong bit; one, at a place of 1 to 30 from the left, that was put right; or more.
 // Each carries 14 data bits, and Beyond those that were received.
 pub enum Verdict {
@@ -108,36 +98,36 @@ pub enum Judged {
 }
 
 // The code word of 14 data bits.
-pub fn tetra_rm3014_compute(input: u16) -> Coded
-    ensures { λ r. ⌜ r ≡ coded (inputRefusal input) (codeWord input) ⌝ }
+pub fn tetra_rm3014_compute(input: u16) -> Valued
+    ensures { λ r. ⌜ r ≡ valued (inputRefusal input) (codeWord input) ⌝ }
 {
     let refusal = input_refusal(input);
     if refusal != 0 {
-        return Coded::Refused(refusal);
+        return Valued::Refused(refusal);
     }
-    Coded::Word(inner::code_word(input))
+    Valued::Value(inner::code_word(input) as usize)
 }
 
 // The data bits of a word as they stand.
-pub fn tetra_rm3014_decode_naive(codeword: u32) -> Reading
-    ensures { λ r. ⌜ r ≡ reading (wordRefusal codeword) (dataOf codeword) ⌝ }
+pub fn tetra_rm3014_decode_naive(codeword: u32) -> Valued
+    ensures { λ r. ⌜ r ≡ valued (wordRefusal codeword) (dataOf codeword) ⌝ }
 {
     let refusal = word_refusal(codeword);
     if refusal != 0 {
-        return Reading::Refused(refusal);
+        return Valued::Refused(refusal);
     }
-    Reading::Bits((codeword >> 16) as u16)
+    Valued::Value((codeword >> 16) as usize)
 }
 
 // The syndrome of a word.
-pub fn compute_syndrome(codeword: u32) -> Reading
-    ensures { λ r. ⌜ r ≡ reading (wordRefusal codeword) (syndrome codeword) ⌝ }
+pub fn compute_syndrome(codeword: u32) -> Valued
+    ensures { λ r. ⌜ r ≡ valued (wordRefusal codeword) (syndrome codeword) ⌝ }
 {
     let refusal = word_refusal(codeword);
     if refusal != 0 {
-        return Reading::Refused(refusal);
+        return Valued::Refused(refusal);
     }
-    Reading::Bits(inner::syndrome_of(codeword))
+    Valued::Value(inner::syndrome_of(codeword) as usize)
 }
 
 // The verdict on a word.

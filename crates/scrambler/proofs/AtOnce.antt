@@ -2,7 +2,7 @@
 -- maps are the same if they are at the 32 registers with one bit set.
 -- Assumes nothing.
 use mathlib.Core.Path.{_≡_, refl, sym, ap, ap₂, _∙_}
-use mathlib.Core.List.{List, [], _∷_}
+use mathlib.Core.List.{List, [], _∷_, foldr}
 use mathlib.Core.Bool.{Bool, true, false}
 use Prim.Native.Nat.{ℕ, zero, suc, _+_, _-_, _*_, _/_, _%_, _^_, _≤_, _<_}
 use native.Mathlib.Nat.{pow-suc, one-mul, add-zero}
@@ -14,7 +14,7 @@ use lib.Pow.{pow-lt, pow-pos, shr-shr, field, mod-mod-pow}
 use borrow.Author.Tests.{ltb-true, ltb-false, eqb-true, eqb-false}
 use Rattle.base.proofs.Table.{at}
 use Rattle.base.proofs.Xor.{xor-bit, xor-odd, xor-swap}
-use Rattle.scrambler.specs.Scrambling.{taps, tapSum, newBit, next, nexts, output}
+use Rattle.scrambler.specs.Scrambling.{taps, newBit, next, nexts, output}
 use Rattle.scrambler.proofs.Outputs.{new-bit-lt, next-top, nexts-lt, nexts-add, output-new, output-after}
 
 -- ---- maps that keep exclusive or
@@ -41,6 +41,10 @@ same-maps f g p q z o (suc n) l x h = go (same-maps f g p q z o n (omega arith))
         ap f (sym s) ∙ p (2 ^ n) r u v ∙ ap₂ bitXor (o n l) (ih r k) ∙ sym (q (2 ^ n) r u v) ∙ ap g s
 
 -- ---- shifts of the register
+-- the sum of the register's bits at the places
+abbrev tapSum : List ℕ → ℕ → ℕ
+tapSum ts x = foldr (λ t sum. x / 2 ^ t % 2 + sum) 0 ts
+
 tap-sum-xor : (ts : List ℕ) (a b : ℕ) → tapSum ts (bitXor a b) % 2 ≡ (tapSum ts a + tapSum ts b) % 2
 tap-sum-xor [] a b = refl
 tap-sum-xor (t ∷ ts) a b =

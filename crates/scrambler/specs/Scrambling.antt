@@ -1,6 +1,6 @@
 -- The scrambling register of EN 300 392-2, 8.2.5, and what sending and receiving make of a block.
 -- Assumes nothing.
-use mathlib.Core.List.{List, [], _∷_}
+use mathlib.Core.List.{List, [], _∷_, foldr}
 use mathlib.Core.Bool.{not}
 use Prim.Native.Nat.{ℕ, zero, suc, _+_, _*_, _/_, _%_, _^_}
 use lib.Dec.{ltb}
@@ -8,21 +8,14 @@ use lib.ListN.{length, getD}
 use Rattle.base.specs.Refusal.{BIT, FIELD, accepted, when}
 use Rattle.base.specs.Bits.{bitsOnly, ERASED}
 use Rattle.base.specs.Places.{tabulate}
-use Rattle.scrambler.specs.declared.Start.{Start}
-use Rattle.scrambler.specs.declared.Start.the-variants.{Value, Refused}
 
 -- the bits of the register that are summed
 abbrev pub taps : List ℕ
 taps = 0 ∷ 6 ∷ 9 ∷ 10 ∷ 16 ∷ 20 ∷ 21 ∷ 22 ∷ 24 ∷ 25 ∷ 27 ∷ 28 ∷ 30 ∷ 31 ∷ []
 
--- the sum of the register's bits at the places
-abbrev pub tapSum : List ℕ → ℕ → ℕ
-tapSum [] x = 0
-tapSum (t ∷ ts) x = x / 2 ^ t % 2 + tapSum ts x
-
 -- the new bit is the sum of the taps mod 2
 unfoldable pub newBit : ℕ → ℕ
-newBit x = tapSum taps x % 2
+newBit x = foldr (λ t sum. x / 2 ^ t % 2 + sum) 0 taps % 2
 
 -- shift right; the new bit enters at 31
 unfoldable pub next : ℕ → ℕ
@@ -48,15 +41,6 @@ fieldRefusal mcc mnc colour =
 unfoldable pub startValue : ℕ → ℕ → ℕ → ℕ
 startValue mcc mnc zero = 0
 startValue mcc mnc (suc c) = 4 * (suc c + 64 * mnc + 2 ^ 20 * mcc) + 3
-
--- the answer that carries a start value
-abbrev pub answer : ℕ → ℕ → Start
-answer zero value = Value value
-answer (suc number) value = Refused (suc number)
-
--- the start value of the three fields, unless one is refused
-abbrev pub startAnswer : ℕ → ℕ → ℕ → Start
-startAnswer mcc mnc colour = answer (fieldRefusal mcc mnc colour) (startValue mcc mnc colour)
 
 -- ---- a block
 -- sending adds the outputs to the bits mod 2

@@ -4,21 +4,16 @@
 ghost use mathlib.Core.Path.{_≡_};
 ghost use Prim.Native.Nat.{ℕ, _+_, _*_, _/_, _%_, _^_, _≤_, _<_};
 ghost use lib.ListN.{length, getD};
-ghost use Rattle.base.specs.Refusal.{outcome, unless};
+ghost use Rattle.base.specs.Refusal.{Leaves, valued};
 ghost use Rattle.base.specs.Places.{tabulate};
-ghost use Rattle.scrambler.specs.Scrambling.{nexts, output, startAnswer, scrambled, sendRefusal, descrambledSymbol, descrambled};
+ghost use Rattle.scrambler.specs.Scrambling.{nexts, output, fieldRefusal, startValue, scrambled, sendRefusal, descrambledSymbol, descrambled};
 ghost use Rattle.scrambler.specs.Fours.{Spreads, Taken, Begun};
 use base::BIT;
 use base::FIELD;
+use base::Valued;
 
 // The start value of the synchronization channel, BSCH.
 pub const SCRAMB_INIT: u32 = 3;
-
-// What the start value's entry answers.
-pub enum Start {
-    Value(u32),
-    Refused(u8),
-}
 
 // The register after thirty-two shifts. It holds their outputs and nothing else, the first lowest.
 fn renewed(x: u32) -> u32
@@ -162,7 +157,7 @@ pub fn tetra_descramb_bits(lfsr_init: u32, block: &mut [u8])
 
 // Sending: a block of bits scrambled. BIT, and nothing is changed, where an entry is no bit.
 pub fn tetra_scramb_bits(lfsr_init: u32, block: &mut [u8]) -> base::Outcome
-    ensures { λ r. ⌜ (r ≡ outcome (sendRefusal (now (block .entry)))) × (now (block .exit) ≡ unless (sendRefusal (now (block .entry))) (scrambled «lfsr_init» (now (block .entry))) (now (block .entry))) ⌝ }
+    ensures { λ r. ⌜ Leaves (sendRefusal (now (block .entry))) (scrambled «lfsr_init» (now (block .entry))) (now (block .entry)) (now (block .exit)) r ⌝ }
 {
     let n = block.len();
     if base::inner::bits_only(block, n) {
@@ -174,20 +169,21 @@ pub fn tetra_scramb_bits(lfsr_init: u32, block: &mut [u8]) -> base::Outcome
 }
 
 // The start value of a cell's country code, network code and colour code; FIELD where one does not fit its field.
-pub fn tetra_scramb_get_init(mcc: u16, mnc: u16, colour: u8) -> Start
-    ensures { λ r. ⌜ r ≡ startAnswer mcc mnc colour ⌝ }
+pub fn tetra_scramb_get_init(mcc: u16, mnc: u16, colour: u8) -> Valued
+    ensures { λ r. ⌜ r ≡ valued (fieldRefusal mcc mnc colour) (startValue mcc mnc colour) ⌝ }
 {
     if 1023 < mcc {
-        return Start::Refused(FIELD);
+        return Valued::Refused(FIELD);
     }
     if 16383 < mnc {
-        return Start::Refused(FIELD);
+        return Valued::Refused(FIELD);
     }
     if 63 < colour {
-        return Start::Refused(FIELD);
+        return Valued::Refused(FIELD);
     }
     if colour == 0 {
-        return Start::Value(0);
+        return Valued::Value(0);
     }
-    Start::Value(4 * (colour as u32 + 64 * mnc as u32 + 0x10_0000 * mcc as u32) + SCRAMB_INIT)
+    let start = 4 * (colour as u32 + 64 * mnc as u32 + 0x10_0000 * mcc as u32) + SCRAMB_INIT;
+    Valued::Value(start as usize)
 }

@@ -21,7 +21,7 @@ use Rattle.trellis.proofs.Encoding.{Each, distance-most, distance-take, encode-
 use Rattle.trellis.proofs.Winners.{nearest-same, nearest-wins}
 use Rattle.trellis.proofs.Decoder.{steps-bounded, decode-nearest, decode-distance}
 use Rattle.convenc.specs.Generators.{outputs}
-use Rattle.viterbi.specs.declared.Decoded.the-variants.{Word, Refused}
+use Rattle.base.specs.declared.Valued.the-variants.{Value, Refused}
 use Rattle.viterbi.specs.Decoding.{disagreements, decoded, decodeRefusal, cleared, Decodes}
 use Rattle.viterbi.specs.Scores.{down, Marks, Stands, mirrored, earlier, Table, told, Tells, handicap, received, Forward, walk, walkEnd, Back}
 use Rattle.viterbi.proofs.Signed.{reads}
@@ -36,9 +36,9 @@ use Rattle.viterbi.proofs.Refusals.{none}
 pub answered : (code : List (List ℕ)) (n : ℕ) (src target target′ trellis trellis′ : List ℕ) (count : ℕ)
     → 0 ≡ decodeRefusal code n (length src) (length trellis) (length target)
     → count ≡ disagreements code n src (decoded code n src) → target′ ≡ written (decoded code n src) target → trellis′ ≡ cleared n trellis
-    → Decodes code n src target target′ trellis trellis′ (Word count)
+    → Decodes code n src target target′ trellis trellis′ (Value count)
 answered code n src target target′ trellis trellis′ count z c t r =
-    record { answers = rw (← z) (ap Word c); writes = rw (← z) t; clears = rw (← z) r }
+    record { answers = rw (← z) (ap Value c); writes = rw (← z) t; clears = rw (← z) r }
 
 pub refused : (code : List (List ℕ)) (n : ℕ) (src target trellis : List ℕ) (number : ℕ)
     → 0 < number → number ≡ decodeRefusal code n (length src) (length trellis) (length target)
@@ -151,7 +151,7 @@ module _ (k : ℕ) (t : List (List ℤ)) (table : Table k t) (src : List ℕ) (n
 
       pub ran : n ≤ length was → n ≤ length target → (symbols count : ℕ) → symbols ≡ total known (take (k * n) src)
           → ((x : ℕ) → Stands (toZ w16 (ofZ w16 (getD m 0 (pos 0)))) x symbols → count ≡ x)
-          → Decodes code n src target target′ was now′ (Word count)
+          → Decodes code n src target target′ was now′ (Value count)
       unfolding mirrored
       ran ht hd symbols count e h =
           answered code n src target target′ was now′ count (none n (length src) (length was) (length target) k code (tells .rate) hn room ht hd)

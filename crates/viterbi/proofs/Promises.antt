@@ -8,7 +8,7 @@ use native.Mathlib.Omega.{arith}
 use lib.ListN.{length, getD}
 use lib.Seq.{getD-take, length-take-le}
 use Rattle.base.specs.Bits.{disagrees, known}
-use Rattle.base.specs.Digits.{digits}
+use Rattle.base.specs.Digits.{digits, dot}
 use Rattle.base.specs.Places.{written}
 use Rattle.base.specs.Refusal.{unless}
 use Rattle.base.proofs.BitLaws.{bits-at}
@@ -21,9 +21,10 @@ use Rattle.air.proofs.Sums.{distance-sum}
 use Rattle.air.proofs.Symbols.{disagrees-tells}
 use Rattle.air.proofs.Channel.{Weighs, Decoder, heard-right}
 use Rattle.air.proofs.Hard.{Any, hard-lawful}
-use Rattle.convenc.specs.Generators.{dot, tapped, outputs, control, speech}
-use Rattle.viterbi.specs.declared.Decoded.the-variants.{Word}
-use Rattle.viterbi.specs.Decoding.{used, disagreements, decoded, unerased, decodeRefusal, answer}
+use Rattle.convenc.specs.Generators.{tapped, outputs, control, speech}
+use Rattle.base.specs.declared.Valued.the-variants.{Value}
+use Rattle.base.specs.Refusal.{valued}
+use Rattle.viterbi.specs.Decoding.{used, disagreements, decoded, unerased, decodeRefusal}
 use Rattle.viterbi.specs.Hearing.{motherCode, AnsweredWord}
 use Rattle.viterbi.proofs.Codes.{outputs-length, outputs-bits}
 use Rattle.viterbi.proofs.Counts.{each-known}
@@ -47,8 +48,8 @@ mother-weighs code n src room w e =
     long : length sent ≡ length code * n
     long = encode-length (outputs code) (length code) (outputs-length code) 0 w ∙ ap (λ (k : ℕ). length code * k) e
 
--- the answer Word says that nothing was refused
-pub word-accepted : (number count least : ℕ) → Word count ≡ answer number least → (number ≡ 0) × (count ≡ least)
+-- a value says that nothing was refused
+pub word-accepted : (number count least : ℕ) → Value count ≡ valued number least → (number ≡ 0) × (count ≡ least)
 word-accepted zero count least e = (refl, cc)
 word-accepted (suc number) count least e = let z : _≡_ {A = ℕ} 0 1 = cc in absurd (omega arith)
 

@@ -2,16 +2,15 @@
 -- Assumes nothing.
 use mathlib.Core.Path.{_≡_}
 use mathlib.Core.List.{List, _++_}
-use Prim.Native.Nat.{ℕ, zero, suc, _*_}
+use Prim.Native.Nat.{ℕ, _*_}
 use lib.Dec.{ltb}
 use lib.ListN.{length, take, drop, replicate}
-use Rattle.base.specs.Refusal.{LIMIT, SHORT, ROOM, accepted, when, unless}
+use Rattle.base.specs.declared.Valued.{Valued}
+use Rattle.base.specs.Refusal.{LIMIT, SHORT, ROOM, accepted, when, unless, valued}
 use Rattle.base.specs.Bits.{disagrees, known}
 use Rattle.base.specs.Places.{written}
 use Rattle.trellis.specs.Nearest.{encode, distance, total, nearest}
 use Rattle.convenc.specs.Generators.{outputs}
-use Rattle.viterbi.specs.declared.Decoded.{Decoded}
-use Rattle.viterbi.specs.declared.Decoded.the-variants.{Word, Refused}
 
 -- the symbols that n steps use
 abbrev pub used : List (List ℕ) → ℕ → List ℕ → List ℕ
@@ -34,17 +33,12 @@ abbrev pub decodeRefusal : List (List ℕ) → ℕ → ℕ → ℕ → ℕ → �
 decodeRefusal code n src trellis dst =
     when (ltb 864 n) LIMIT (when (ltb src (length code * n)) SHORT (when (ltb trellis n) ROOM (when (ltb dst n) ROOM accepted)))
 
--- the answer: the word's disagreements, or the number of the refusal
-abbrev pub answer : ℕ → ℕ → Decoded
-answer zero count = Word count
-answer (suc number) count = Refused (suc number)
-
 -- the first n entries 0; the rest stays
 abbrev pub cleared : ℕ → List ℕ → List ℕ
 cleared n trellis = replicate n 0 ++ drop n trellis
 
--- what an entry owes for n steps of a code: its answer, and what target and trellis hold at the end, all of them for all inputs
-pub record Decodes (code : List (List ℕ)) (n : ℕ) (src target target′ trellis trellis′ : List ℕ) (r : Decoded) : Type 0 where
-  pub answers : r ≡ answer (decodeRefusal code n (length src) (length trellis) (length target)) (disagreements code n src (decoded code n src))
+-- what an entry owes for n steps of a code: its answer, whose value is the number of disagreements, and what target and trellis hold at the end, all of them for all inputs
+pub record Decodes (code : List (List ℕ)) (n : ℕ) (src target target′ trellis trellis′ : List ℕ) (r : Valued) : Type 0 where
+  pub answers : r ≡ valued (decodeRefusal code n (length src) (length trellis) (length target)) (disagreements code n src (decoded code n src))
   pub writes : target′ ≡ unless (decodeRefusal code n (length src) (length trellis) (length target)) (written (decoded code n src) target) target
   pub clears : trellis′ ≡ unless (decodeRefusal code n (length src) (length trellis) (length target)) (cleared n trellis) trellis

@@ -10,11 +10,11 @@ ghost use Rattle.base.specs.Bits.{known};
 ghost use Rattle.trellis.specs.Nearest.{total};
 ghost use Rattle.viterbi.specs.Decoding.{decodeRefusal, Decodes};
 ghost use Rattle.viterbi.specs.Scores.{Sixteen, Holds, Marks, Small, Trit, Trits, Stands, Table, Tells, Rows, classOf, Classes, branchOf, firstWay, secondWay, better, oldest, Turned, Forward, Back, down};
-use super::Decoded;
 use base::LIMIT;
 use base::ROOM;
 use base::SHORT;
 use base::START;
+use base::Valued;
 
 // What the states other than 0 begin with: more than four steps can cost, and little enough for 864 steps in an i16.
 const HANDICAP: i16 = 4096;
@@ -272,7 +272,7 @@ fn run(
     target: &mut [u8],
     n: usize,
     trellis: &mut [u16],
-) -> Decoded
+) -> Valued
     requires { ⌜ Table k expected × (n ≤ 864) × (k * n ≤ length (now source)) × (n ≤ length (now trellis)) × (n ≤ length (now target)) ⌝ }
     ensures { λ r. ⌜ ((code : List (List ℕ)) → Tells code k expected
         → Decodes code n (now (source .entry)) (now (target .entry)) (now (target .exit)) (now (trellis .entry)) (now (trellis .exit)) r) ⌝ }
@@ -280,9 +280,9 @@ fn run(
     let scores = forward(expected, k, source, n, trellis);
     let z = scores.m[0];
     if 0 < back(n, trellis, target) {
-        return Decoded::Refused(START);
+        return Valued::Refused(START);
     }
-    Decoded::Word(cost(z, unerased(source, k * n)))
+    Valued::Value(cost(z, unerased(source, k * n)))
 }
 
 // Both decoders: n steps of k symbols over a table of expected bits.
@@ -293,14 +293,14 @@ pub fn decode(
     target: &mut [u8],
     n: usize,
     trellis: &mut [u16],
-) -> Decoded
+) -> Valued
     requires { ⌜ Table k expected ⌝ }
     ensures { λ r. ⌜ ((code : List (List ℕ)) → Tells code k expected
         → Decodes code n (now (source .entry)) (now (target .entry)) (now (target .exit)) (now (trellis .entry)) (now (trellis .exit)) r) ⌝ }
 {
     let number = refusal(k, n, source.len(), trellis.len(), target.len());
     if 0 < number {
-        return Decoded::Refused(number);
+        return Valued::Refused(number);
     }
     run(expected, k, source, target, n, trellis)
 }

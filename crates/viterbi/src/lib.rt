@@ -3,12 +3,7 @@
 // disagreements counted. A caller gets the nearest word and how many unerased symbols disagree with it.
 ghost use Rattle.convenc.specs.Generators.{control, speech};
 ghost use Rattle.viterbi.specs.Decoding.{Decodes};
-
-// The disagreements of the word that was written, or why nothing was.
-pub enum Decoded {
-    Word(usize),
-    Refused(u8),
-}
+use base::Valued;
 
 mod inner;
 
@@ -29,8 +24,9 @@ const SPEECH: [[i8; 16]; 4] = [
     [0, 0, 0, 0, 0, 0, 0, 0, 0, 0, 0, 0, 0, 0, 0, 0],
 ];
 
-// Decodes sym_count steps of four control symbols each: 0 and 1 are bits, every other byte is an erasure.
-pub fn dec_sb1(in_buf: &[u8], out_buf: &mut [u8], sym_count: usize, trellis: &mut [u16]) -> Decoded
+// Decodes sym_count steps of four control symbols each: 0 and 1 are bits, every other byte is an erasure. The value is the
+// number of disagreements of the word that was written.
+pub fn dec_sb1(in_buf: &[u8], out_buf: &mut [u8], sym_count: usize, trellis: &mut [u16]) -> Valued
     ensures { λ r. ⌜ Decodes control «sym_count» (now («in_buf» .entry)) (now («out_buf» .entry)) (now («out_buf» .exit))
         (now (trellis .entry)) (now (trellis .exit)) r ⌝ }
 {
@@ -43,7 +39,7 @@ pub fn dec_speech(
     out_buf: &mut [u8],
     sym_count: usize,
     trellis: &mut [u16],
-) -> Decoded
+) -> Valued
     ensures { λ r. ⌜ Decodes speech «sym_count» (now («in_buf» .entry)) (now («out_buf» .entry)) (now («out_buf» .exit))
         (now (trellis .entry)) (now (trellis .exit)) r ⌝ }
 {

@@ -4,13 +4,14 @@ use mathlib.Core.Path.{_≡_, sym, ap, _∙_}
 use native.Mathlib.Omega.{arith}
 use borrow.Author.Needs.{needs}
 use Rattle.base.specs.Places.{tabulate}
-use Rattle.crc16.specs.Crc.{register, bitsOf}
+use Rattle.base.specs.Places.{tabulate}
+use Rattle.crc16.specs.Crc.{register, bitOf}
 use Rattle.crc16.proofs.Steps.{register-none, packed-more}
 use Rattle.crc16.proofs.packed_bits.Statement.{statement}
 use Rattle.crc16.proofs.packed_bits.Tie as tie
 
 abbrev Inv-loop : tie.InvT-loop
-Inv-loop crc input number-bits reg₀ i₀ reg i = (i ≤ number-bits) × (reg ≡ register crc (bitsOf input i))
+Inv-loop crc input number-bits reg₀ i₀ reg i = (i ≤ number-bits) × (reg ≡ register crc (tabulate (bitOf input) i))
 
 abbrev μ-loop : tie.MeasureT-loop
 μ-loop crc input number-bits reg₀ i₀ reg i = number-bits - i
@@ -44,7 +45,7 @@ returns : tie.Need-returns Inv-loop μ-loop
 returns c =
     let a = c .before .before .before .args in
     let e : c .before .loop .i ≡ a .number-bits = omega arith in
-    c .before .loop .inv .1 ∙ ap (λ (n : ℕ). register (a .crc) (bitsOf (a .input .now) n)) e
+    c .before .loop .inv .1 ∙ ap (λ (n : ℕ). register (a .crc) (tabulate (bitOf (a .input .now)) n)) e
 
 pub packed-bits-spec : {M : Type 1} → statement M
 packed-bits-spec =

@@ -1,12 +1,7 @@
 -- The refusal's number says which way out is taken.
 -- Assumes nothing.
-use Prim.Native.Nat.{ℕ}
-use mathlib.Core.Path.{sym, ap, _∙_}
 use borrow.Author.Needs.{needs}
-use Rattle.rm3014.specs.declared.Reading.the-variants.{Bits, Refused}
-use Rattle.rm3014.specs.Code.{syndrome}
-use Rattle.rm3014.specs.Verdict.{reading, wordRefusal}
-use Rattle.rm3014.proofs.Answers.{reading-refused}
+use Rattle.base.proofs.Refusals.{value-refused, value-done}
 use Rattle.rm3014.proofs.compute_syndrome.Statement.{statement}
 use Rattle.rm3014.proofs.compute_syndrome.Tie as tie
 
@@ -15,17 +10,19 @@ word-refusal-requires c κs = search needs
 
 returns : tie.Need-returns
 returns c =
-    let w = c .before .before .args .codeword in
-    let e = c .before .word-refusal .ensures in
-    ap Refused e ∙ reading-refused (wordRefusal w) (syndrome w) (λ z. c .if1 .taken (e ∙ z))
+    let f = c .before .word-refusal in
+    value-refused (f .result) _ _ (f .ensures) (c .if1 .taken)
 
 syndrome-of-requires : tie.Need-syndrome-of-requires
 syndrome-of-requires c κs = search needs
 
+cast-t5 : tie.Need-cast-t5
+cast-t5 c = search needs
+
 returns-2 : tie.Need-returns-2
 returns-2 c =
-    let w = c .before .before .before .args .codeword in
-    ap Bits (c .syndrome-of .ensures) ∙ ap (λ (n : ℕ). reading n (syndrome w)) (sym (sym (c .before .before .word-refusal .ensures) ∙ c .before .if1 .left))
+    let f = c .before .before .word-refusal in
+    value-done (f .result) _ _ _ (f .ensures) (c .before .if1 .left) (c .syndrome-of .ensures)
 
 pub compute-syndrome-spec : {M : Type 1} → statement M
-compute-syndrome-spec = tie.close (tie.spec word-refusal-requires returns syndrome-of-requires returns-2)
+compute-syndrome-spec = tie.close (tie.spec word-refusal-requires returns syndrome-of-requires cast-t5 returns-2)

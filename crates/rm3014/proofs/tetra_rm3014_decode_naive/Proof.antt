@@ -1,13 +1,8 @@
 -- The refusal's number says which way out is taken.
 -- Assumes nothing.
-use Prim.Native.Nat.{ℕ, _^_}
-use mathlib.Core.Path.{sym, ap, _∙_}
-use native.Mathlib.Omega.{arith}
+use mathlib.Core.Path.{refl}
 use borrow.Author.Needs.{needs}
-use Rattle.rm3014.specs.declared.Reading.the-variants.{Refused}
-use Rattle.rm3014.specs.Code.{dataOf}
-use Rattle.rm3014.specs.Verdict.{reading, wordRefusal}
-use Rattle.rm3014.proofs.Answers.{below-limit, reading-refused}
+use Rattle.base.proofs.Refusals.{value-refused, value-done}
 use Rattle.rm3014.proofs.tetra_rm3014_decode_naive.Statement.{statement}
 use Rattle.rm3014.proofs.tetra_rm3014_decode_naive.Tie as tie
 
@@ -16,17 +11,16 @@ word-refusal-requires c κs = search needs
 
 returns : tie.Need-returns
 returns c =
-    let w = c .before .before .args .codeword in
-    let e = c .before .word-refusal .ensures in
-    ap Refused e ∙ reading-refused (wordRefusal w) (dataOf w) (λ z. c .if1 .taken (e ∙ z))
+    let f = c .before .word-refusal in
+    value-refused (f .result) _ _ (f .ensures) (c .if1 .taken)
 
 cast-t5 : tie.Need-cast-t5
-cast-t5 c =
-    let l = below-limit (2 ^ 30) (c .before .before .args .codeword) (sym (c .before .word-refusal .ensures) ∙ c .if1 .left) in
-    omega arith
+cast-t5 c = search needs
 
 returns-2 : tie.Need-returns-2
-returns-2 c = ap (λ (n : ℕ). reading n (dataOf (c .before .before .args .codeword))) (sym (sym (c .before .word-refusal .ensures) ∙ c .if1 .left))
+returns-2 c =
+    let f = c .before .word-refusal in
+    value-done (f .result) _ _ _ (f .ensures) (c .if1 .left) refl
 
 pub tetra-rm3014-decode-naive-spec : {M : Type 1} → statement M
 tetra-rm3014-decode-naive-spec = tie.close (tie.spec word-refusal-requires returns cast-t5 returns-2)

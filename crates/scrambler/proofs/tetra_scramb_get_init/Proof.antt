@@ -20,23 +20,26 @@ returns-4 c =
     let a = c .before .before .before .before .args in
     start-fits (a .mcc) (a .mnc) (a .colour) 0 (omega arith) (omega arith) (omega arith) (start-none (a .mcc) (a .mnc) (a .colour) (c .if4 .taken))
 
-mul-t7 : tie.Need-mul-t7
-mul-t7 c = search needs
+mul-start : tie.Need-mul-start
+mul-start c = search needs
 
-add-t8 : tie.Need-add-t8
-add-t8 c = search needs
+add-start : tie.Need-add-start
+add-start c = search needs
 
-mul-t10 : tie.Need-mul-t10
-mul-t10 c = search needs
+mul-start-2 : tie.Need-mul-start-2
+mul-start-2 c = search needs
 
-add-t11 : tie.Need-add-t11
-add-t11 c = search needs
+add-start-2 : tie.Need-add-start-2
+add-start-2 c = search needs
 
-mul-t12 : tie.Need-mul-t12
-mul-t12 c = search needs
+mul-start-3 : tie.Need-mul-start-3
+mul-start-3 c = search needs
 
-add-t13 : tie.Need-add-t13
-add-t13 c = search needs
+add-start-3 : tie.Need-add-start-3
+add-start-3 c = search needs
+
+cast-t14 : tie.Need-cast-t14
+cast-t14 c = search needs
 
 returns-5 : tie.Need-returns-5
 returns-5 c =
@@ -51,10 +54,11 @@ tetra-scramb-get-init-spec =
     returns-2
     returns-3
     returns-4
-    mul-t7
-    add-t8
-    mul-t10
-    add-t11
-    mul-t12
-    add-t13
+    mul-start
+    add-start
+    mul-start-2
+    add-start-2
+    mul-start-3
+    add-start-3
+    cast-t14
     returns-5)

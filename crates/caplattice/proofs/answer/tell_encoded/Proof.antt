@@ -1,7 +1,8 @@
 use mathlib.Core.Path.{ap}
+use Prim.Native.Nat.{ℕ}
 use borrow.Author.Needs.{needs}
-use Rattle.caplattice.specs.Answer.{nextReport}
-use Rattle.caplattice.proofs.Laws.{reported-as}
+use Rattle.caplattice.specs.Answer.{encodedReport}
+use Rattle.caplattice.proofs.Laws.{told-as}
 use Rattle.caplattice.proofs.answer.tell_encoded.Statement.{statement}
 use Rattle.caplattice.proofs.answer.tell_encoded.Tie as tie
 
@@ -24,7 +25,9 @@ tell-next-requires : tie.Need-tell-next-requires
 tell-next-requires c κs = search needs
 
 returns : tie.Need-returns
-returns c = reported-as (ap (nextReport (c .before .before .before .args .own)) (c .before .before .delays-number .ensures)) (c .tell-next .ensures)
+returns c =
+    let a = c .before .before .before .args in
+    told-as (ap (λ (n : ℕ). encodedReport (a .own) n (a .answer .now)) (c .before .before .delays-number .ensures)) (c .tell-next .ensures)
 
 pub tell-encoded-spec : {M : Type 1} → statement M
 tell-encoded-spec =

@@ -1,7 +1,8 @@
 use mathlib.Core.Path.{sym, ap}
 use borrow.Author.Needs.{needs}
+use Rattle.rm3014.specs.declared.Judged.{Judged}
 use Rattle.caplattice.specs.Answer.{judgedReport}
-use Rattle.caplattice.proofs.Laws.{reported-as}
+use Rattle.caplattice.proofs.Laws.{told-as}
 use Rattle.caplattice.proofs.answer.tell_judged.Statement.{statement}
 use Rattle.caplattice.proofs.answer.tell_judged.Tie as tie
 
@@ -15,7 +16,9 @@ enum-known-own-2 : tie.Need-enum-known-own-2
 enum-known-own-2 c = search needs
 
 returns : tie.Need-returns
-returns c = reported-as (ap judgedReport (sym (c .before .before .before .own .given .1))) (c .tell-verdict .ensures)
+returns c =
+    let before = c .before .before .before .before .before .args .answer .now in
+    told-as (ap (λ (own : Judged). judgedReport own before) (sym (c .before .before .before .own .given .1))) (c .tell-verdict .ensures)
 
 returns-2 : tie.Need-returns-2
 returns-2 c = search needs

@@ -1,8 +1,8 @@
 use mathlib.Core.Path.{sym, ap}
 use borrow.Author.Needs.{needs}
 use Rattle.base.specs.declared.Outcome.{Outcome}
-use Rattle.caplattice.specs.Answer.{nextReport}
-use Rattle.caplattice.proofs.Laws.{reported-as}
+use Rattle.caplattice.specs.Answer.{encodedReport}
+use Rattle.caplattice.proofs.Laws.{told-as}
 use Rattle.caplattice.proofs.answer.tell_next.Statement.{statement}
 use Rattle.caplattice.proofs.answer.tell_next.Tie as tie
 
@@ -17,8 +17,8 @@ enum-known-own c = search needs
 
 returns : tie.Need-returns
 returns c =
-    let next = c .before .before .before .before .args .next in
-    reported-as (ap (λ (own : Outcome). nextReport own next) (sym (c .before .before .enum-told .given .1))) (c .say .ensures)
+    let a = c .before .before .before .before .args in
+    told-as (ap (λ (own : Outcome). encodedReport own (a .next) (a .answer .now)) (sym (c .before .before .enum-told .given .1))) (c .say .ensures)
 
 returns-2 : tie.Need-returns-2
 returns-2 c = search needs
