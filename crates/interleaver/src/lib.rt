@@ -4,7 +4,7 @@
 ghost use mathlib.Core.Path.{_≡_};
 ghost use Prim.Native.Nat.{_+_, _%_, _≤_, _<_};
 ghost use lib.ListN.{length};
-ghost use Rattle.base.specs.Refusal.{outcome, unless};
+ghost use Rattle.base.specs.Refusal.{Leaves};
 ghost use Rattle.base.specs.Places.{written, gather, scatter};
 ghost use Rattle.interleaver.specs.Divisors.{Greatest};
 ghost use Rattle.interleaver.specs.Walk.{onward, walk, Ready};
@@ -130,9 +130,8 @@ fn collect(start: usize, step: usize, count: usize, input: &[u8], output: &mut [
 
 // Place i of 1..k goes to 1 + (a i mod k).
 pub fn block_interleave(k: usize, a: usize, input: &[u8], output: &mut [u8]) -> base::Outcome
-    ensures { λ r. ⌜ (r ≡ outcome (blockRefusal k a (length (now (input .entry))) (length (now (output .entry)))))
-        × (now (output .exit) ≡ unless (blockRefusal k a (length (now (input .entry))) (length (now (output .entry))))
-        (interleaved k a (now (input .entry)) (now (output .entry))) (now (output .entry))) ⌝ }
+    ensures { λ r. ⌜ Leaves (blockRefusal k a (length (now (input .entry))) (length (now (output .entry))))
+        (interleaved k a (now (input .entry)) (now (output .entry))) (now (output .entry)) (now (output .exit)) r ⌝ }
 {
     let refused = block_refusal(k, a, input.len(), output.len());
     if refused != 0 {
@@ -145,9 +144,8 @@ pub fn block_interleave(k: usize, a: usize, input: &[u8], output: &mut [u8]) -> 
 
 // Place i of 1..k comes from 1 + (a i mod k).
 pub fn block_deinterleave(k: usize, a: usize, input: &[u8], output: &mut [u8]) -> base::Outcome
-    ensures { λ r. ⌜ (r ≡ outcome (blockRefusal k a (length (now (input .entry))) (length (now (output .entry)))))
-        × (now (output .exit) ≡ unless (blockRefusal k a (length (now (input .entry))) (length (now (output .entry))))
-        (written (deinterleaved k a (now (input .entry))) (now (output .entry))) (now (output .entry))) ⌝ }
+    ensures { λ r. ⌜ Leaves (blockRefusal k a (length (now (input .entry))) (length (now (output .entry))))
+        (written (deinterleaved k a (now (input .entry))) (now (output .entry))) (now (output .entry)) (now (output .exit)) r ⌝ }
 {
     let refused = block_refusal(k, a, input.len(), output.len());
     if refused != 0 {
@@ -212,9 +210,8 @@ pub fn matrix_interleave(
     input: &[u8],
     output: &mut [u8],
 ) -> base::Outcome
-    ensures { λ r. ⌜ (r ≡ outcome (matrixRefusal lines columns (length (now (input .entry))) (length (now (output .entry)))))
-        × (now (output .exit) ≡ unless (matrixRefusal lines columns (length (now (input .entry))) (length (now (output .entry))))
-        (matrixInterleaved lines columns (now (input .entry)) (now (output .entry))) (now (output .entry))) ⌝ }
+    ensures { λ r. ⌜ Leaves (matrixRefusal lines columns (length (now (input .entry))) (length (now (output .entry))))
+        (matrixInterleaved lines columns (now (input .entry)) (now (output .entry))) (now (output .entry)) (now (output .exit)) r ⌝ }
 {
     let refused = matrix_refusal(lines, columns, input.len(), output.len());
     if refused != 0 {
@@ -231,9 +228,8 @@ pub fn matrix_deinterleave(
     input: &[u8],
     output: &mut [u8],
 ) -> base::Outcome
-    ensures { λ r. ⌜ (r ≡ outcome (matrixRefusal lines columns (length (now (input .entry))) (length (now (output .entry)))))
-        × (now (output .exit) ≡ unless (matrixRefusal lines columns (length (now (input .entry))) (length (now (output .entry))))
-        (written (matrixDeinterleaved lines columns (now (input .entry))) (now (output .entry))) (now (output .entry))) ⌝ }
+    ensures { λ r. ⌜ Leaves (matrixRefusal lines columns (length (now (input .entry))) (length (now (output .entry))))
+        (written (matrixDeinterleaved lines columns (now (input .entry))) (now (output .entry))) (now (output .entry)) (now (output .exit)) r ⌝ }
 {
     let refused = matrix_refusal(lines, columns, input.len(), output.len());
     if refused != 0 {

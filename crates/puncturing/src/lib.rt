@@ -5,7 +5,7 @@ ghost use mathlib.Core.Path.{_≡_};
 ghost use mathlib.Core.List.{[]};
 ghost use Prim.Native.Nat.{ℕ, _+_, _*_, _≤_, _<_};
 ghost use lib.ListN.{length, getD};
-ghost use Rattle.base.specs.Refusal.{outcome, unless};
+ghost use Rattle.base.specs.Refusal.{Leaves};
 ghost use Rattle.base.specs.Places.{written};
 ghost use Rattle.puncturing.specs.Puncturing.{needed, punctureRefusal, depunctureRefusal, punctured, depunctured};
 ghost use Rattle.puncturing.specs.Walk.{rows, Sound, Parameters, Lies, Stands, Period, Periods, Reaches, put, Holds, Carries, carried};
@@ -304,9 +304,8 @@ fn depuncture_refusal(mode: u8, n: usize, source: usize, room: usize) -> u8
 
 // The outputs numbered 1 to len that the mode keeps of a mother word.
 pub fn get_punctured_rate(mode: u8, input: &[u8], len: usize, output: &mut [u8]) -> Outcome
-    ensures { λ r. ⌜ (r ≡ outcome (punctureRefusal mode len (length (now (input .entry))) (length (now (output .entry)))))
-        × (now (output .exit) ≡ unless (punctureRefusal mode len (length (now (input .entry))) (length (now (output .entry))))
-        (written (punctured mode len (now (input .entry))) (now (output .entry))) (now (output .entry))) ⌝ }
+    ensures { λ r. ⌜ Leaves (punctureRefusal mode len (length (now (input .entry))) (length (now (output .entry))))
+        (written (punctured mode len (now (input .entry))) (now (output .entry))) (now (output .entry)) (now (output .exit)) r ⌝ }
 {
     let refusal = puncture_refusal(mode, len, input.len(), output.len());
     if refusal != 0 {
@@ -318,9 +317,8 @@ pub fn get_punctured_rate(mode: u8, input: &[u8], len: usize, output: &mut [u8])
 
 // The len entries back at their mother places. What is not kept stays as it was.
 pub fn tetra_rcpc_depunct(mode: u8, input: &[u8], len: usize, output: &mut [u8]) -> Outcome
-    ensures { λ r. ⌜ (r ≡ outcome (depunctureRefusal mode len (length (now (input .entry))) (length (now (output .entry)))))
-        × (now (output .exit) ≡ unless (depunctureRefusal mode len (length (now (input .entry))) (length (now (output .entry))))
-        (depunctured mode len (now (input .entry)) (now (output .entry))) (now (output .entry))) ⌝ }
+    ensures { λ r. ⌜ Leaves (depunctureRefusal mode len (length (now (input .entry))) (length (now (output .entry))))
+        (depunctured mode len (now (input .entry)) (now (output .entry))) (now (output .entry)) (now (output .exit)) r ⌝ }
 {
     let refusal = depuncture_refusal(mode, len, input.len(), output.len());
     if refusal != 0 {

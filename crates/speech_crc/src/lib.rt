@@ -6,7 +6,7 @@ ghost use mathlib.Core.List.{[], _∷_, _++_, foldr};
 ghost use Prim.Native.Nat.{_+_, _-_, _%_, _≤_};
 ghost use lib.ListN.{length, getD};
 ghost use Rattle.base.specs.Places.{written, tabulate};
-ghost use Rattle.base.specs.Refusal.{outcome, unless};
+ghost use Rattle.base.specs.Refusal.{Leaves};
 ghost use Rattle.speech_crc.specs.Check.{dataBits, remainder, speechCheck, checkRefusal};
 use base::Outcome;
 use base::ROOM;
@@ -86,8 +86,8 @@ fn put_check(class2: &[u8], check: &mut [u8])
 
 // Writes the eight check bits of the 60 data bits, or refuses and writes nothing: SHORT below 60 entries, ROOM below 8.
 pub fn speech_crc(class2: &[u8], check: &mut [u8]) -> Outcome
-    ensures answer { λ r. ⌜ r ≡ outcome (checkRefusal (length (now (class2 .entry))) (length (now (check .entry)))) ⌝ }
-    ensures target { λ r. ⌜ now (check .exit) ≡ unless (checkRefusal (length (now (class2 .entry))) (length (now (check .entry)))) (written (speechCheck (now (class2 .entry))) (now (check .entry))) (now (check .entry)) ⌝ }
+    ensures { λ r. ⌜ Leaves (checkRefusal (length (now (class2 .entry))) (length (now (check .entry))))
+        (written (speechCheck (now (class2 .entry))) (now (check .entry))) (now (check .entry)) (now (check .exit)) r ⌝ }
 {
     if class2.len() < 60 {
         return Outcome::Refused(SHORT);

@@ -4,7 +4,7 @@
 ghost use mathlib.Core.Path.{_≡_};
 ghost use Prim.Native.Nat.{_≤_};
 ghost use lib.ListN.{length};
-ghost use Rattle.base.specs.Refusal.{outcome, unless};
+ghost use Rattle.base.specs.Refusal.{Leaves};
 ghost use Rattle.base.specs.Places.{written};
 ghost use Rattle.tch_reorder.specs.Order.{reorderRefusal, channelOf, codecOf};
 
@@ -57,9 +57,8 @@ fn to_codec(channel: &[u8], codec: &mut [u8])
 
 // The 274 entries of a speech frame, put from codec order into channel order.
 pub fn codec_to_channel(codec: &[u8], channel: &mut [u8]) -> base::Outcome
-    ensures { λ r. ⌜ (r ≡ outcome (reorderRefusal (length (now (codec .entry))) (length (now (channel .entry)))))
-        × (now (channel .exit) ≡ unless (reorderRefusal (length (now (codec .entry))) (length (now (channel .entry))))
-        (written (channelOf (now (codec .entry))) (now (channel .entry))) (now (channel .entry))) ⌝ }
+    ensures { λ r. ⌜ Leaves (reorderRefusal (length (now (codec .entry))) (length (now (channel .entry))))
+        (written (channelOf (now (codec .entry))) (now (channel .entry))) (now (channel .entry)) (now (channel .exit)) r ⌝ }
 {
     let refused = refusal(codec.len(), channel.len());
     if refused != 0 {
@@ -71,9 +70,8 @@ pub fn codec_to_channel(codec: &[u8], channel: &mut [u8]) -> base::Outcome
 
 // The 274 entries of a speech frame, put from channel order into codec order.
 pub fn channel_to_codec(channel: &[u8], codec: &mut [u8]) -> base::Outcome
-    ensures { λ r. ⌜ (r ≡ outcome (reorderRefusal (length (now (channel .entry))) (length (now (codec .entry)))))
-        × (now (codec .exit) ≡ unless (reorderRefusal (length (now (channel .entry))) (length (now (codec .entry))))
-        (codecOf (now (channel .entry)) (now (codec .entry))) (now (codec .entry))) ⌝ }
+    ensures { λ r. ⌜ Leaves (reorderRefusal (length (now (channel .entry))) (length (now (codec .entry))))
+        (codecOf (now (channel .entry)) (now (codec .entry))) (now (codec .entry)) (now (codec .exit)) r ⌝ }
 {
     let refused = refusal(channel.len(), codec.len());
     if refused != 0 {
