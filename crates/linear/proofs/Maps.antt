@@ -3,7 +3,7 @@
 use mathlib.Core.Path.{_≡_, refl, sym, ap, ap₂, _∙_}
 use mathlib.Core.List.{List, [], _∷_, _++_, map}
 use Prim.Native.Nat.{ℕ, zero, suc, _+_, _-_, _*_, _/_, _%_, _^_, _≤_, _<_}
-use native.Mathlib.Nat.{add-zero, zero-mul, one-mul, div-self, div-eq-of-lt, mul-mod-left, zero-div, mod-lt, mod-one, mod-eq-of-lt}
+use native.Mathlib.Nat.{add-zero, zero-mul, mul-zero, one-mul, mul-assoc, div-self, div-eq-of-lt, mul-mod-left, zero-div, mod-lt, mod-one, mod-eq-of-lt}
 use native.Mathlib.Numerals.{add-one, one-add}
 use native.Mathlib.Omega.{arith}
 use lib.Bits.{bitAnd, bitXor, and-mask, xor-shr, xor-zero-r, xor-self, xor-lt, xor-shifted, xor-block}
@@ -12,7 +12,7 @@ use lib.Pow.{pow-lt, pow-pos, shr-shr, field, mod-mod-pow, mod-pow-add}
 use lib.Seq.{drop-cons, drop-length}
 use Rattle.base.specs.Digits.{digits, dot}
 use Rattle.base.proofs.Xor.{xor-odd, xor-assoc, xor-swap}
-use Rattle.linear.specs.Linear.{chosen, image, units}
+use Rattle.linear.specs.Linear.{image, units}
 
 -- ---- bits
 bit-lt : (n k : ℕ) → n / 2 ^ k % 2 < 2
@@ -40,28 +40,29 @@ low-bit w n k h =
 pub mod-more : (w n : ℕ) → w % 2 ^ suc n ≡ w / 2 ^ n % 2 * 2 ^ n + w % 2 ^ n
 mod-more w n = ap (λ (k : ℕ). w % 2 ^ k) (sym (one-add n)) ∙ mod-pow-add w 1 n
 
--- ---- a column, where its bit is set
+-- ---- a column times its bit
+abbrev chosen : ℕ → ℕ → ℕ
+chosen b column = b * column
+
 chosen-xor : (x y c : ℕ) → x < 2 → y < 2 → chosen ((x + y) % 2) c ≡ bitXor (chosen x c) (chosen y c)
-chosen-xor zero zero c h k = refl
-chosen-xor zero (suc zero) c h k = refl
+chosen-xor zero zero c h k = simp zero-mul
+chosen-xor zero (suc zero) c h k = simp (zero-mul, one-mul)
 chosen-xor zero (suc (suc y)) c h k = absurd (omega arith)
-chosen-xor (suc zero) zero c h k = sym (xor-zero-r c)
-chosen-xor (suc zero) (suc zero) c h k = sym (xor-self c)
+chosen-xor (suc zero) zero c h k = simp (zero-mul, one-mul, xor-zero-r)
+chosen-xor (suc zero) (suc zero) c h k = simp (zero-mul, one-mul, xor-self)
 chosen-xor (suc zero) (suc (suc y)) c h k = absurd (omega arith)
 chosen-xor (suc (suc x)) y c h k = absurd (omega arith)
 
-chosen-lt : (b c m : ℕ) → c < m → chosen b c < m
-chosen-lt zero c m h = omega arith
-chosen-lt (suc b) c m h = h
+chosen-lt : (b c m : ℕ) → b < 2 → c < m → chosen b c < m
+chosen-lt zero c m l h = omega arith
+chosen-lt (suc zero) c m l h = omega arith
+chosen-lt (suc (suc b)) c m l h = absurd (omega arith)
 
-chosen-times : (b c : ℕ) → b < 2 → chosen b c ≡ b * c
-chosen-times zero c h = omega arith
-chosen-times (suc zero) c h = omega arith
-chosen-times (suc (suc b)) c h = absurd (omega arith)
-
-chosen-zero : (b : ℕ) → chosen b 0 ≡ 0
-chosen-zero zero = refl
-chosen-zero (suc b) = refl
+-- what holds of 0 and of a column holds of the column times its bit
+chosen-by : (P : ℕ → ℕ → Type 0) (c d b : ℕ) → b < 2 → P 0 0 → P c d → P (chosen b c) (chosen b d)
+chosen-by P c d zero l z h = rw (zero-mul c, zero-mul d) z
+chosen-by P c d (suc zero) l z h = rw (one-mul c, one-mul d) h
+chosen-by P c d (suc (suc b)) l z h = absurd (omega arith)
 
 -- ---- the map
 pub image-xor : (cs : List ℕ) (a b : ℕ) → image cs (bitXor a b) ≡ bitXor (image cs a) (image cs b)
@@ -80,7 +81,7 @@ image-mod (c ∷ cs) n w h =
 pub image-zero : (cs : List ℕ) → image cs 0 ≡ 0
 image-zero [] = refl
 image-zero (c ∷ cs) =
-    ap₂ (λ (b x : ℕ). bitXor (chosen (b % 2) c) x) (zero-div (2 ^ length cs)) (image-zero cs)
+    ap₂ (λ (b x : ℕ). bitXor (chosen (b % 2) c) x) (zero-div (2 ^ length cs)) (image-zero cs) ∙ ap (λ (x : ℕ). bitXor x 0) (zero-mul c)
 
 -- a single set bit gives its column
 pub image-one : (cs : List ℕ) (i : ℕ) → i < length cs → image cs (2 ^ (length cs - suc i)) ≡ getD cs i 0
@@ -91,12 +92,13 @@ image-one (c ∷ cs) zero h =
     let z : 2 ^ n % 2 ^ n ≡ 0 = ap (λ (x : ℕ). x % 2 ^ n) (sym (one-mul (2 ^ n))) ∙ mul-mod-left 1 (2 ^ n) in
     ap (image (c ∷ cs)) (ap (λ (x : ℕ). 2 ^ x) e)
     ∙ ap₂ (λ (b x : ℕ). bitXor (chosen (b % 2) c) x) (div-self (pow-pos n)) (image-mod cs n (2 ^ n) (omega arith) ∙ ap (image cs) z ∙ image-zero cs)
-    ∙ xor-zero-r c
+    ∙ xor-zero-r (1 * c) ∙ one-mul c
 image-one (c ∷ cs) (suc i) h =
     let n = length cs in
     let e : suc n - suc (suc i) ≡ n - suc i = omega arith in
     ap (image (c ∷ cs)) (ap (λ (x : ℕ). 2 ^ x) e)
     ∙ ap₂ (λ (b x : ℕ). bitXor (chosen (b % 2) c) x) (div-eq-of-lt (pow-lt {i = n - suc i} {j = n} (omega arith))) (image-one cs i (omega arith))
+    ∙ ap (λ (x : ℕ). bitXor x (getD cs i 0)) (zero-mul c)
 
 pub image-append : (ps qs : List ℕ) (w : ℕ) → image (ps ++ qs) w ≡ bitXor (image ps (w / 2 ^ length qs)) (image qs w)
 image-append [] qs w = refl
@@ -109,7 +111,7 @@ image-append (c ∷ ps) qs w =
 pub image-lt : (k : ℕ) (cs : List ℕ) → ((i : ℕ) → i < length cs → getD cs i 0 < 2 ^ k) → (w : ℕ) → image cs w < 2 ^ k
 image-lt k [] h w = pow-pos k
 image-lt k (c ∷ cs) h w =
-    xor-lt k (chosen (w / 2 ^ length cs % 2) c) (image cs w) (chosen-lt (w / 2 ^ length cs % 2) c (2 ^ k) (h 0 (omega arith)))
+    xor-lt k (chosen (w / 2 ^ length cs % 2) c) (image cs w) (chosen-lt (w / 2 ^ length cs % 2) c (2 ^ k) (bit-lt w (length cs)) (h 0 (omega arith)))
     (image-lt k cs (λ i l. h (suc i) (omega arith)) w)
 
 -- ---- two maps
@@ -119,12 +121,8 @@ image-image ps [] w = image-zero ps
 image-image ps (c ∷ qs) w =
     image-xor ps (chosen (w / 2 ^ length qs % 2) c) (image qs w)
     ∙ ap₂ bitXor
-    (through (w / 2 ^ length qs % 2) ∙ ap (λ (n : ℕ). chosen (w / 2 ^ n % 2) (image ps c)) (sym (length-map qs (image ps))))
+    (chosen-by (λ x y. image ps x ≡ y) c (image ps c) (w / 2 ^ length qs % 2) (bit-lt w (length qs)) (image-zero ps) refl ∙ ap (λ (n : ℕ). chosen (w / 2 ^ n % 2) (image ps c)) (sym (length-map qs (image ps))))
     (image-image ps qs w)
-  where
-    through : (b : ℕ) → image ps (chosen b c) ≡ chosen b (image ps c)
-    through zero = image-zero ps
-    through (suc b) = refl
 
 -- each column the sum of two columns
 abbrev pub sums : List ℕ → List ℕ → List ℕ
@@ -139,7 +137,7 @@ image-sums (p ∷ ps) [] w e = absurd (omega arith)
 image-sums (p ∷ ps) (q ∷ qs) w e =
     let f : length ps ≡ length qs = omega arith in
     ap₂ bitXor
-    (ap (λ (n : ℕ). chosen (w / 2 ^ n % 2) (bitXor p q)) (len ps qs f) ∙ both (w / 2 ^ length ps % 2)
+    (ap (λ (n : ℕ). chosen (w / 2 ^ n % 2) (bitXor p q)) (len ps qs f) ∙ both (w / 2 ^ length ps % 2) (bit-lt w (length ps))
     ∙ ap (λ (n : ℕ). bitXor (chosen (w / 2 ^ length ps % 2) p) (chosen (w / 2 ^ n % 2) q)) f)
     (image-sums ps qs w f)
     ∙ xor-swap (chosen (w / 2 ^ length ps % 2) p) (chosen (w / 2 ^ length qs % 2) q) (image ps w) (image qs w)
@@ -149,15 +147,16 @@ image-sums (p ∷ ps) (q ∷ qs) w e =
     len (p ∷ ps) [] e = absurd (omega arith)
     len (p ∷ ps) (q ∷ qs) e = ap suc (len ps qs (omega arith))
 
-    both : (x : ℕ) → chosen x (bitXor p q) ≡ bitXor (chosen x p) (chosen x q)
-    both zero = refl
-    both (suc x) = refl
+    both : (x : ℕ) → x < 2 → chosen x (bitXor p q) ≡ bitXor (chosen x p) (chosen x q)
+    both zero h = simp zero-mul
+    both (suc zero) h = simp one-mul
+    both (suc (suc x)) h = absurd (omega arith)
 
 -- the units leave a word as it is
 pub image-units : (n w : ℕ) → image (units n) w ≡ w % 2 ^ n
 image-units zero w = sym (mod-one w)
 image-units (suc n) w =
-    ap₂ bitXor (ap (λ (l : ℕ). chosen (w / 2 ^ l % 2) (2 ^ n)) (len n) ∙ chosen-times (w / 2 ^ n % 2) (2 ^ n) (bit-lt w n)) (image-units n w)
+    ap₂ bitXor (ap (λ (l : ℕ). chosen (w / 2 ^ l % 2) (2 ^ n)) (len n)) (image-units n w)
     ∙ xor-shifted (w / 2 ^ n % 2) n (w % 2 ^ n) (mod-lt w (pow-pos n)) ∙ sym (mod-more w n)
   where
     len : (n : ℕ) → length (units n) ≡ n
@@ -169,13 +168,9 @@ pub image-raised : (k : ℕ) (cs : List ℕ) (w : ℕ) → image (map (λ (c : �
 image-raised k [] w = sym (zero-mul (2 ^ k))
 image-raised k (c ∷ cs) w =
     let b = w / 2 ^ length cs % 2 in
-    ap₂ bitXor (ap (λ (n : ℕ). chosen (w / 2 ^ n % 2) (c * 2 ^ k)) (length-map cs (λ (c : ℕ). c * 2 ^ k)) ∙ through b) (image-raised k cs w)
+    ap₂ bitXor (ap (λ (n : ℕ). chosen (w / 2 ^ n % 2) (c * 2 ^ k)) (length-map cs (λ (c : ℕ). c * 2 ^ k)) ∙ sym (mul-assoc b c (2 ^ k))) (image-raised k cs w)
     ∙ up (chosen b c) (image cs w)
   where
-    through : (b : ℕ) → chosen b (c * 2 ^ k) ≡ chosen b c * 2 ^ k
-    through zero = sym (zero-mul (2 ^ k))
-    through (suc b) = refl
-
     up : (x y : ℕ) → bitXor (x * 2 ^ k) (y * 2 ^ k) ≡ bitXor x y * 2 ^ k
     up x y =
         ap₂ bitXor (sym (add-zero (x * 2 ^ k))) (sym (add-zero (y * 2 ^ k))) ∙ xor-block k x y 0 0 (pow-pos k) (pow-pos k)
@@ -189,7 +184,7 @@ image-undone ps qs n e w h =
 -- a map all of whose columns are 0
 pub image-nothing : (n w : ℕ) → image (replicate n 0) w ≡ 0
 image-nothing zero w = refl
-image-nothing (suc n) w = ap₂ bitXor (chosen-zero (w / 2 ^ length (replicate n 0) % 2)) (image-nothing n w)
+image-nothing (suc n) w = ap₂ bitXor (mul-zero (w / 2 ^ length (replicate n 0) % 2)) (image-nothing n w)
 
 -- ---- bit by bit
 -- bit j of the image is the sum mod 2, over the word's bits, of the bit times bit j of its column
@@ -202,8 +197,8 @@ image-bit (c ∷ cs) w j =
     ∙ ap₂ (λ (x y : ℕ). (x + y) % 2) (through b (bit-lt w (length cs))) (image-bit cs w j) ∙ parts (b * (c / 2 ^ j % 2)) d
   where
     through : (b : ℕ) → b < 2 → chosen b c / 2 ^ j % 2 ≡ b * (c / 2 ^ j % 2)
-    through zero h = ap (λ (x : ℕ). x % 2) (zero-div (2 ^ j)) ∙ sym (zero-mul (c / 2 ^ j % 2))
-    through (suc zero) h = sym (one-mul (c / 2 ^ j % 2))
+    through zero h = simp (zero-mul, zero-div)
+    through (suc zero) h = simp one-mul
     through (suc (suc b)) h = absurd (omega arith)
 
     parts : (x y : ℕ) → (x + y % 2) % 2 ≡ (x + y) % 2
@@ -222,12 +217,12 @@ image-more cs i w done whole h e =
     ∙ e)
 
 chosen-set : (x c : ℕ) → bitAnd x 1 ≡ 1 → c ≡ chosen (x % 2) c
-chosen-set x c e = ap (λ (b : ℕ). chosen b c) (sym (sym (and-mask x 1) ∙ e))
+chosen-set x c e = sym (one-mul c) ∙ ap (λ (b : ℕ). chosen b c) (sym (sym (and-mask x 1) ∙ e))
 
 chosen-clear : (x c : ℕ) → (bitAnd x 1 ≡ 1 → ⊥) → 0 ≡ chosen (x % 2) c
 chosen-clear x c n =
     let z : 0 ≡ x % 2 = omega (arith, and-mask x 1, n) in
-    ap (λ (b : ℕ). chosen b c) z
+    sym (zero-mul c) ∙ ap (λ (b : ℕ). chosen b c) z
 
 pub image-set : (cs : List ℕ) (i w done whole : ℕ) → i < length cs → bitXor done (image (drop i cs) w) ≡ whole
     → bitAnd (w / 2 ^ (length cs - 1 - i)) 1 ≡ 1 → bitXor (bitXor done (getD cs i 0)) (image (drop (i + 1) cs) w) ≡ whole

@@ -4,20 +4,15 @@
 use mathlib.Core.List.{List, [], _∷_}
 use mathlib.Core.Bool.{cond}
 use mathlib.Core.Path.{_≡_}
-use Prim.Native.Nat.{ℕ, zero, suc, _+_, _-_, _/_, _%_, _^_, _≤_, _<_}
+use Prim.Native.Nat.{ℕ, zero, suc, _+_, _-_, _*_, _/_, _%_, _^_, _≤_, _<_}
 use lib.Bits.{bitXor}
 use lib.Dec.{eqb}
 use lib.ListN.{length, getD}
 
--- the column where the bit is set, and 0 where it is not
-abbrev pub chosen : ℕ → ℕ → ℕ
-chosen zero column = 0
-chosen (suc b) column = column
-
--- the sum, bit by bit mod 2, of the columns at the set bits of the word
+-- the sum, bit by bit mod 2, of the columns, each times its bit of the word
 abbrev pub image : List ℕ → ℕ → ℕ
 image [] word = 0
-image (c ∷ cs) word = bitXor (chosen (word / 2 ^ length cs % 2) c) (image cs word)
+image (c ∷ cs) word = bitXor (word / 2 ^ length cs % 2 * c) (image cs word)
 
 -- the map that leaves a word of n bits as it is
 abbrev pub units : ℕ → List ℕ

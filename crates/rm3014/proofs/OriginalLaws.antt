@@ -4,7 +4,7 @@ use mathlib.Core.Path.{_≡_, refl, sym, ap, ap₂, _∙_}
 use mathlib.Core.List.{List, [], _∷_, _++_, map}
 use mathlib.Core.Bool.{Bool, true, false, cond}
 use Prim.Native.Nat.{ℕ, zero, suc, _+_, _-_, _*_, _/_, _%_, _^_, _<_}
-use native.Mathlib.Nat.{pow-suc, mul-assoc, mod-eq-of-lt, div-eq-of-lt, div-self, zero-div}
+use native.Mathlib.Nat.{zero-mul, one-mul, pow-suc, mul-assoc, mod-eq-of-lt, div-eq-of-lt, div-self, zero-div}
 use native.Mathlib.Omega.{arith}
 use lib.Bits.{bitXor, xor-zero-r}
 use lib.Dec.{T, eqb, eqb→eq, eqb·suc-zero, ltb}
@@ -16,12 +16,13 @@ use Rattle.base.specs.Digits.{digits, dot}
 use Rattle.base.specs.Places.{tabulate}
 use Rattle.base.proofs.Lists.{tabulate-length, tabulate-at, tabulate-same}
 use Rattle.base.proofs.Table.{at, both-left, both-right}
-use Rattle.linear.specs.Linear.{chosen, image, placeFrom}
+use Rattle.linear.specs.Linear.{image, placeFrom}
 use Rattle.linear.proofs.Maps.{xor-bit-at, low-bit, mod-more, image-append, image-bit, image-lt}
 use Rattle.rm3014.specs.Code.{table, upwards, columns, syndrome, placeOf}
-use Rattle.rm3014.specs.Verdict.{verdict, byPlace, bySyndrome, bitsIn}
+use Rattle.rm3014.specs.Verdict.{verdict, bitsIn}
 use Rattle.rm3014.specs.Original.{check, checks, corrected, decoded}
 use Rattle.rm3014.proofs.CodeLaws.{ownBits, syndrome-lt, syndrome-parts, columns-length}
+use Rattle.rm3014.proofs.VerdictLaws.{byPlace, bySyndrome, place-decides}
 
 -- ---- a number, its bits from the lowest
 upwards-last : (l : List ℕ) (b : ℕ) → upwards (l ++ (b ∷ [])) ≡ b * 2 ^ length l + upwards l
@@ -65,13 +66,14 @@ power-bit n j h =
     ap (λ (k : ℕ). 2 ^ k / 2 ^ j) e ∙ ap (λ (x : ℕ). x / 2 ^ j) (pow-add 2 (suc (n - j - 1)) j) ∙ shl-shr (2 ^ suc (n - j - 1)) j ∙ pow-suc 2 (n - j - 1) in
     omega (arith, d)
 
-chosen-low : (b n j : ℕ) → j < n → chosen b (2 ^ n) / 2 ^ j % 2 ≡ 0
-chosen-low zero n j h = ap (λ (x : ℕ). x % 2) (zero-div (2 ^ j))
-chosen-low (suc b) n j h = power-bit n j h
+chosen-low : (b n j : ℕ) → b < 2 → j < n → b * 2 ^ n / 2 ^ j % 2 ≡ 0
+chosen-low zero n j l h = simp (zero-mul, zero-div)
+chosen-low (suc zero) n j l h = simp one-mul (power-bit n j h)
+chosen-low (suc (suc b)) n j l h = absurd (omega arith)
 
-chosen-own : (b n : ℕ) → b < 2 → chosen b (2 ^ n) / 2 ^ n % 2 ≡ b
-chosen-own zero n h = ap (λ (x : ℕ). x % 2) (zero-div (2 ^ n))
-chosen-own (suc zero) n h = ap (λ (x : ℕ). x % 2) (div-self (pow-pos n))
+chosen-own : (b n : ℕ) → b < 2 → b * 2 ^ n / 2 ^ n % 2 ≡ b
+chosen-own zero n h = simp (zero-mul, zero-div)
+chosen-own (suc zero) n h = simp one-mul (ap (λ (x : ℕ). x % 2) (div-self (pow-pos n)))
 chosen-own (suc (suc b)) n h = absurd (omega arith)
 
 own-bit : (n w j : ℕ) → j < n → image (tabulate (λ j. 2 ^ j) n) w / 2 ^ j % 2 ≡ w / 2 ^ (n - 1 - j) % 2
@@ -88,7 +90,7 @@ own-bit (suc n) w j h =
     front = image powers (w / 2 ^ 1)
 
     last : ℕ
-    last = chosen (w / 2 ^ 0 % 2) (2 ^ n)
+    last = w / 2 ^ 0 % 2 * 2 ^ n
 
     front-lt : front < 2 ^ n
     front-lt =
@@ -107,7 +109,7 @@ own-bit (suc n) w j h =
     go ih true e =
         let l = ltb-true j n e in
         let k : 1 + (n - 1 - j) ≡ suc n - 1 - j = omega arith in
-        sum-left (front / 2 ^ j) (last / 2 ^ j % 2) (chosen-low (w / 2 ^ 0 % 2) n j l) ∙ ih l
+        sum-left (front / 2 ^ j) (last / 2 ^ j % 2) (chosen-low (w / 2 ^ 0 % 2) n j (omega arith) l) ∙ ih l
         ∙ ap (λ (x : ℕ). x % 2) (shr-shr w 1 (n - 1 - j) ∙ ap (λ (x : ℕ). w / 2 ^ x) k)
     go ih false e =
         let k : j ≡ n = omega (arith, ltb-false j n e) in
@@ -158,4 +160,7 @@ same-bits word = go (syndrome word) ∙ ap (λ (s : ℕ). cond (eqb s 0) word (c
   where
     go : (s : ℕ) → bitsIn (bySyndrome s word) ≡ cond (eqb s 0) word (corrected s columns word) / 2 ^ 16
     go zero = refl
-    go (suc s) = corrected-place (suc s) 1 word columns (omega arith) (omega (arith, columns-length)) ∙ ap (λ (t : Bool). cond t word (corrected (suc s) columns word) / 2 ^ 16) (sym (eqb·suc-zero s))
+    go (suc s) =
+        ap bitsIn (place-decides s (placeOf (suc s)) word)
+        ∙ corrected-place (suc s) 1 word columns (omega arith) (omega (arith, columns-length))
+        ∙ ap (λ (t : Bool). cond t word (corrected (suc s) columns word) / 2 ^ 16) (sym (eqb·suc-zero s))

@@ -13,11 +13,23 @@ use borrow.Author.Tests.{ltb-true, ltb-false}
 use Rattle.linear.specs.Linear.{turned}
 use Rattle.linear.proofs.WrongBits.{turned-lt, turned-twice, turned-swap, image-turned, place-at, column-set, column-place, pair-set, pair-place, one-turned, two-turned}
 use Rattle.rm3014.specs.Code.{codeWord, dataOf, columns, syndrome, placeOf}
-use Rattle.rm3014.specs.Verdict.{byPlace, bySyndrome, verdict}
+use Rattle.rm3014.specs.Verdict.{verdictBy, verdict}
+use Rattle.rm3014.specs.declared.Verdict.{Verdict}
 use Rattle.rm3014.specs.declared.Verdict.the-variants.{Clean, Mended, Beyond}
 use Rattle.rm3014.proofs.CodeLaws.{code-data, code-passes, place-le, columns-length, columns-separate, only-code-passes}
 
 -- ---- the verdict by the syndrome
+abbrev pub bySyndrome : ℕ → ℕ → Verdict
+bySyndrome s word = verdictBy s (placeOf s) word
+
+-- where the syndrome is not 0 its place decides
+abbrev pub byPlace : ℕ → ℕ → Verdict
+byPlace p word = verdictBy 1 p word
+
+pub place-decides : (s p word : ℕ) → verdictBy (suc s) p word ≡ byPlace p word
+place-decides s zero word = refl
+place-decides s (suc p) word = refl
+
 pub clean-by : (word : ℕ) → syndrome word ≡ 0 → verdict word ≡ Clean (dataOf word)
 clean-by word e = ap (λ (s : ℕ). bySyndrome s word) e
 
@@ -26,7 +38,7 @@ place-by word s p e n f = ap (λ (x : ℕ). bySyndrome x word) e ∙ go s n ∙ 
   where
     go : (s : ℕ) → (s ≡ 0 → ⊥) → bySyndrome s word ≡ byPlace (placeOf s) word
     go zero n = absurd (n refl)
-    go (suc s) n = refl
+    go (suc s) n = place-decides s (placeOf (suc s)) word
 
 -- the same, as the decoder works it out: the sum and the place of it come first
 pub found-clean : (word s : ℕ) → s ≡ syndrome word → s ≡ 0 → Clean (dataOf word) ≡ verdict word
@@ -113,7 +125,7 @@ only-clean word bits h v = go (syndrome word) refl v
 
     go : (s : ℕ) → syndrome word ≡ s → bySyndrome s word ≡ Clean bits → word ≡ codeWord bits
     go zero e v = let b : dataOf word ≡ bits = cc in only-code-passes word h e ∙ ap codeWord b
-    go (suc s) e v = absurd (none (placeOf (suc s)) v)
+    go (suc s) e v = absurd (none (placeOf (suc s)) (sym (place-decides s (placeOf (suc s)) word) ∙ v))
 
 -- a word is Mended at a place only where it is the code word of the data it is given with the bit at that place wrong
 pub only-mended : (word p bits : ℕ) → word < 2 ^ 30 → verdict word ≡ Mended p bits → (0 < p) × (p ≤ 30) × (word ≡ turned 30 p (codeWord bits))
@@ -140,4 +152,4 @@ only-mended word p bits h v = go (syndrome word) refl v
 
     go : (s : ℕ) → syndrome word ≡ s → bySyndrome s word ≡ Mended p bits → (0 < p) × (p ≤ 30) × (word ≡ turned 30 p (codeWord bits))
     go zero e v = let z : _≡_ {A = ℕ} 0 1 = cc in absurd (omega arith)
-    go (suc s) e v = put (suc s) (placeOf (suc s)) e refl v
+    go (suc s) e v = put (suc s) (placeOf (suc s)) e refl (sym (place-decides s (placeOf (suc s)) word) ∙ v)

@@ -1,6 +1,6 @@
 -- The code RM(30,14) of EN 300 392-2, 8.2.3.2: a word is 14 data bits and then 16 parity bits, the first the most significant.
 -- Assumes nothing.
-use mathlib.Core.List.{List, [], _∷_, _++_, map}
+use mathlib.Core.List.{List, [], _∷_, _++_, map, foldr}
 use Prim.Native.Nat.{ℕ, _+_, _*_, _/_, _^_}
 use Rattle.base.specs.Digits.{number}
 use Rattle.base.specs.Places.{tabulate}
@@ -40,8 +40,7 @@ dataOf word = word / 2 ^ 16
 -- ---- the syndrome
 -- the number that bits say, the first of them worth 1
 abbrev pub upwards : List ℕ → ℕ
-upwards [] = 0
-upwards (b ∷ bs) = b + 2 * upwards bs
+upwards = foldr (λ b n. b + 2 * n) 0
 
 -- for each place of a word, from the left, the parity bits that it takes part in: those of its row for a data bit, itself for a parity bit
 unfoldable pub columns : List ℕ

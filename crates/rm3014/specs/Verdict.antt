@@ -10,19 +10,16 @@ use Rattle.rm3014.specs.declared.Verdict.the-variants.{Clean, Mended, Be
 use Rattle.rm3014.specs.declared.Judged.{Judged}
 use Rattle.rm3014.specs.declared.Judged.the-variants.{Is, Refused}
 
--- Mended at the place, with that bit turned; Beyond where there is no place
-abbrev pub byPlace : ℕ → ℕ → Verdict
-byPlace zero word = Beyond (dataOf word)
-byPlace (suc p) word = Mended (suc p) (dataOf (turned 30 (suc p) word))
-
--- Clean where the syndrome is 0, and otherwise by the place whose column the syndrome is
-abbrev pub bySyndrome : ℕ → ℕ → Verdict
-bySyndrome zero word = Clean (dataOf word)
-bySyndrome (suc s) word = byPlace (placeOf (suc s)) word
+-- by the syndrome and the place whose column it is: Clean where the syndrome is 0; Beyond where there is no place; Mended at the place, with
+-- that bit turned
+abbrev pub verdictBy : ℕ → ℕ → ℕ → Verdict
+verdictBy zero place word = Clean (dataOf word)
+verdictBy (suc s) zero word = Beyond (dataOf word)
+verdictBy (suc s) (suc p) word = Mended (suc p) (dataOf (turned 30 (suc p) word))
 
 -- the verdict on a word
 abbrev pub verdict : ℕ → Verdict
-verdict word = bySyndrome (syndrome word) word
+verdict word = verdictBy (syndrome word) (placeOf (syndrome word)) word
 
 -- the 14 bits that a verdict carries
 abbrev pub bitsIn : Verdict → ℕ
