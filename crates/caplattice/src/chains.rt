@@ -13,7 +13,8 @@ use super::answer;
 
 #[no_mangle]
 pub extern "C" fn caplattice_encode_cp(kind: u8, start: u32, source: &[u8], target: &mut [u8]) -> u8
-    ensures { λ r. ⌜ Answers (λ x. SendsControl kind start (now (source .entry)) (now (target .entry)) x (now (target .exit))) (λ x. x ≡ outcome r) ⌝ }
+    ensures { λ r. ⌜ Answers (λ x. SendsControl kind start (now (source .entry)) (now (target .entry)) x (now (target .exit)))
+        (λ x. x ≡ outcome r) ⌝ }
 {
     answer::refusal_of(errorcontrol_cp::encode_cp(kind, start, source, target))
 }
@@ -27,7 +28,8 @@ pub extern "C" fn caplattice_decode_cp(
     trellis: &mut [u16],
     answer: &mut [u64; 6],
 ) -> u8
-    ensures { λ r. ⌜ Answers (λ x. ReceivesControl kind start (now (source .entry)) (now (target .entry)) (now (trellis .entry)) x (now (target .exit)) (now (trellis .exit))) (λ x. Tells (receivedReport x (now (answer .entry))) r (now (answer .exit))) ⌝ }
+    ensures { λ r. ⌜ Answers (λ x. ReceivesControl kind start (now (source .entry)) (now (target .entry)) (now (trellis .entry)) x (now (target .exit)) (now (trellis .exit)))
+        (λ x. Tells (receivedReport x (now (answer .entry))) r (now (answer .exit))) ⌝ }
 {
     answer::tell_received(
         errorcontrol_cp::decode_cp(kind, start, source, target, trellis),
@@ -37,14 +39,16 @@ pub extern "C" fn caplattice_decode_cp(
 
 #[no_mangle]
 pub extern "C" fn caplattice_encode_tp(start: u32, source: &[u8], target: &mut [u8]) -> u8
-    ensures { λ r. ⌜ Answers (λ x. SendsSpeech 432 (slot start (now (source .entry))) (now (source .entry)) (now (target .entry)) x (now (target .exit))) (λ x. x ≡ outcome r) ⌝ }
+    ensures { λ r. ⌜ Answers (λ x. SendsSpeech 432 (slot start (now (source .entry))) (now (source .entry)) (now (target .entry)) x (now (target .exit)))
+        (λ x. x ≡ outcome r) ⌝ }
 {
     answer::refusal_of(errorcontrol_tp::encode_tp(start, source, target))
 }
 
 #[no_mangle]
 pub extern "C" fn caplattice_encode_tp_half(start: u32, source: &[u8], target: &mut [u8]) -> u8
-    ensures { λ r. ⌜ Answers (λ x. SendsSpeech 216 (secondHalf (slot start (now (source .entry)))) (now (source .entry)) (now (target .entry)) x (now (target .exit))) (λ x. x ≡ outcome r) ⌝ }
+    ensures { λ r. ⌜ Answers (λ x. SendsSpeech 216 (secondHalf (slot start (now (source .entry)))) (now (source .entry)) (now (target .entry)) x (now (target .exit)))
+        (λ x. x ≡ outcome r) ⌝ }
 {
     answer::refusal_of(errorcontrol_tp::encode_tp_half(start, source, target))
 }
@@ -57,7 +61,8 @@ pub extern "C" fn caplattice_decode_tp(
     trellis: &mut [u16],
     answer: &mut [u64; 6],
 ) -> u8
-    ensures { λ r. ⌜ Answers (λ x. ReceivesSpeech 432 start (now (source .entry)) (take 432 (now (source .entry))) (now (target .entry)) (now (trellis .entry)) x (now (target .exit)) (now (trellis .exit))) (λ x. Tells (receivedReport x (now (answer .entry))) r (now (answer .exit))) ⌝ }
+    ensures { λ r. ⌜ Answers (λ x. ReceivesSpeech 432 start (now (source .entry)) (take 432 (now (source .entry))) (now (target .entry)) (now (trellis .entry)) x (now (target .exit)) (now (trellis .exit)))
+        (λ x. Tells (receivedReport x (now (answer .entry))) r (now (answer .exit))) ⌝ }
 {
     answer::tell_received(
         errorcontrol_tp::decode_tp(start, source, target, trellis),
@@ -73,7 +78,8 @@ pub extern "C" fn caplattice_decode_tp_half(
     trellis: &mut [u16],
     answer: &mut [u64; 6],
 ) -> u8
-    ensures { λ r. ⌜ Answers (λ x. ReceivesSpeech 216 start (now (source .entry)) (supplied (now (source .entry))) (now (target .entry)) (now (trellis .entry)) x (now (target .exit)) (now (trellis .exit))) (λ x. Tells (receivedReport x (now (answer .entry))) r (now (answer .exit))) ⌝ }
+    ensures { λ r. ⌜ Answers (λ x. ReceivesSpeech 216 start (now (source .entry)) (supplied (now (source .entry))) (now (target .entry)) (now (trellis .entry)) x (now (target .exit)) (now (trellis .exit)))
+        (λ x. Tells (receivedReport x (now (answer .entry))) r (now (answer .exit))) ⌝ }
 {
     answer::tell_received(
         errorcontrol_tp::decode_tp_half(start, source, target, trellis),
@@ -83,14 +89,16 @@ pub extern "C" fn caplattice_decode_tp_half(
 
 #[no_mangle]
 pub extern "C" fn caplattice_encode_aach(start: u32, source: &[u8], target: &mut [u8]) -> u8
-    ensures { λ r. ⌜ Answers (Leaves (encodeRefusal (now (source .entry)) (length (now (target .entry)))) (written (encoded start (now (source .entry))) (now (target .entry))) (now (target .entry)) (now (target .exit))) (λ x. x ≡ outcome r) ⌝ }
+    ensures { λ r. ⌜ Answers (Leaves (encodeRefusal (now (source .entry)) (length (now (target .entry)))) (written (encoded start (now (source .entry))) (now (target .entry))) (now (target .entry)) (now (target .exit)))
+        (λ x. x ≡ outcome r) ⌝ }
 {
     answer::refusal_of(errorcontrol_aach::encode_aach(start, source, target))
 }
 
 #[no_mangle]
 pub extern "C" fn caplattice_decode_aach(start: u32, source: &[u8], answer: &mut [u64; 6]) -> u8
-    ensures { λ r. ⌜ Answers (λ x. x ≡ decoded start (now (source .entry))) (λ x. Tells (judgedReport x (now (answer .entry))) r (now (answer .exit))) ⌝ }
+    ensures { λ r. ⌜ Answers (λ x. x ≡ decoded start (now (source .entry)))
+        (λ x. Tells (judgedReport x (now (answer .entry))) r (now (answer .exit))) ⌝ }
 {
     answer::tell_judged(errorcontrol_aach::decode_aach(start, source), answer)
 }

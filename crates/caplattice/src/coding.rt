@@ -80,7 +80,8 @@ pub extern "C" fn caplattice_get_punctured_rate(
     n: usize,
     target: &mut [u8],
 ) -> u8
-    ensures { λ r. ⌜ Answers (Leaves (punctureRefusal mode n (length (now (source .entry))) (length (now (target .entry)))) (written (punctured mode n (now (source .entry))) (now (target .entry))) (now (target .entry)) (now (target .exit))) (λ x. x ≡ outcome r) ⌝ }
+    ensures { λ r. ⌜ Answers (Leaves (punctureRefusal mode n (length (now (source .entry))) (length (now (target .entry)))) (written (punctured mode n (now (source .entry))) (now (target .entry))) (now (target .entry)) (now (target .exit)))
+        (λ x. x ≡ outcome r) ⌝ }
 {
     answer::refusal_of(puncturing::get_punctured_rate(mode, source, n, target))
 }
@@ -92,7 +93,8 @@ pub extern "C" fn caplattice_tetra_rcpc_depunct(
     n: usize,
     target: &mut [u8],
 ) -> u8
-    ensures { λ r. ⌜ Answers (Leaves (depunctureRefusal mode n (length (now (source .entry))) (length (now (target .entry)))) (depunctured mode n (now (source .entry)) (now (target .entry))) (now (target .entry)) (now (target .exit))) (λ x. x ≡ outcome r) ⌝ }
+    ensures { λ r. ⌜ Answers (Leaves (depunctureRefusal mode n (length (now (source .entry))) (length (now (target .entry)))) (depunctured mode n (now (source .entry)) (now (target .entry))) (now (target .entry)) (now (target .exit)))
+        (λ x. x ≡ outcome r) ⌝ }
 {
     answer::refusal_of(puncturing::tetra_rcpc_depunct(mode, source, n, target))
 }
@@ -103,7 +105,8 @@ pub extern "C" fn caplattice_mother_memcmp(
     depunct: &[u8],
     answer: &mut [u64; 6],
 ) -> u8
-    ensures { λ r. ⌜ Answers (λ x. x ≡ compare (now (mother .entry)) (now (depunct .entry))) (λ x. Tells (comparedReport x) r (now (answer .exit))) ⌝ }
+    ensures { λ r. ⌜ Answers (λ x. x ≡ compare (now (mother .entry)) (now (depunct .entry)))
+        (λ x. Tells (comparedReport x) r (now (answer .exit))) ⌝ }
 {
     answer::tell_compared(comparing::mother_memcmp(mother, depunct), answer)
 }
@@ -116,7 +119,8 @@ pub extern "C" fn caplattice_dec_sb1(
     trellis: &mut [u16],
     answer: &mut [u64; 6],
 ) -> u8
-    ensures { λ r. ⌜ Answers (Decodes control n (now (source .entry)) (now (target .entry)) (now (target .exit)) (now (trellis .entry)) (now (trellis .exit))) (λ x. Tells (valuedReport (λ n. saying 0 0 n 0) x (now (answer .entry))) r (now (answer .exit))) ⌝ }
+    ensures { λ r. ⌜ Answers (Decodes control n (now (source .entry)) (now (target .entry)) (now (target .exit)) (now (trellis .entry)) (now (trellis .exit)))
+        (λ x. Tells (valuedReport (λ n. saying 0 0 n 0) x (now (answer .entry))) r (now (answer .exit))) ⌝ }
 {
     answer::tell_decoded(viterbi::dec_sb1(source, target, n, trellis), answer)
 }
@@ -129,7 +133,8 @@ pub extern "C" fn caplattice_dec_speech(
     trellis: &mut [u16],
     answer: &mut [u64; 6],
 ) -> u8
-    ensures { λ r. ⌜ Answers (Decodes speech n (now (source .entry)) (now (target .entry)) (now (target .exit)) (now (trellis .entry)) (now (trellis .exit))) (λ x. Tells (valuedReport (λ n. saying 0 0 n 0) x (now (answer .entry))) r (now (answer .exit))) ⌝ }
+    ensures { λ r. ⌜ Answers (Decodes speech n (now (source .entry)) (now (target .entry)) (now (target .exit)) (now (trellis .entry)) (now (trellis .exit)))
+        (λ x. Tells (valuedReport (λ n. saying 0 0 n 0) x (now (answer .entry))) r (now (answer .exit))) ⌝ }
 {
     answer::tell_decoded(viterbi::dec_speech(source, target, n, trellis), answer)
 }
