@@ -1,3 +1,2 @@
-// What becomes of a distance between air and mother word: theory with no code, over any code, any places and any scrambling.
-// Each stage of receiving, held against a word, costs what the received symbols cost against that word sent through the same stage.
-// The laws stand in proofs/.
+// Channels: theory with no code, over any symbols, any costs and any way to read the air. Demand 3 is proved here once for all of them.
+// How a distance passes through the stages of a chain stands in `stages`. The laws stand in proofs/.

@@ -11,8 +11,7 @@ use Rattle.base.specs.Refusal.{SHORT, KIND}
 use Rattle.base.specs.declared.Received.{Received}
 use Rattle.records.specs.Kinds.{symbolsOf}
 use Rattle.rm3014.specs.declared.Judged.{Judged}
-use Rattle.errorcontrol_aach.specs.Access.{decoded}
-use Rattle.errorcontrol_tp.specs.Speech.{supplied}
+use Rattle.errorcontrol_aach.specs.Receiving as access
 use Rattle.answers.specs.Chains.{controlAnswer, speechAnswer}
 use Rattle.answers.specs.Answering.{startOf, ofReceived, ofJudged, chainOf, answerOf}
 use Rattle.answers.specs.declared.Answer.{Answer}
@@ -25,15 +24,15 @@ unfolding startOf
 start-is s p q r t = rw (p, q, r, t)
 
 module _ (kind start : ℕ) (air : List ℕ) where
-  pub chain-access : {j : Judged} {a : Answer} → kind ≡ 5 → j ≡ decoded start air → a ≡ ofJudged j → a ≡ chainOf kind start air
+  pub chain-access : {j : Judged} {a : Answer} → kind ≡ 5 → j ≡ access.answerOf start air → a ≡ ofJudged j → a ≡ chainOf kind start air
   unfolding chainOf
   chain-access k e f = f ∙ ap ofJudged e ∙ simp (eq-eqb kind 5 k)
 
-  pub chain-slot : {j : Received} {a : Answer} → kind ≡ 6 → j ≡ speechAnswer 432 start air (take 432 air) → a ≡ ofReceived j → a ≡ chainOf kind start air
+  pub chain-slot : {j : Received} {a : Answer} → kind ≡ 6 → j ≡ speechAnswer 432 start air → a ≡ ofReceived j → a ≡ chainOf kind start air
   unfolding chainOf
   chain-slot k e f = f ∙ ap ofReceived e ∙ simp (ne-eqb kind 5 (λ w. omega arith), eq-eqb kind 6 k)
 
-  pub chain-half : {j : Received} {a : Answer} → kind ≡ 7 → j ≡ speechAnswer 216 start air (supplied air) → a ≡ ofReceived j → a ≡ chainOf kind start air
+  pub chain-half : {j : Received} {a : Answer} → kind ≡ 7 → j ≡ speechAnswer 216 start air → a ≡ ofReceived j → a ≡ chainOf kind start air
   unfolding chainOf
   chain-half k e f = f ∙ ap ofReceived e ∙ simp (ne-eqb kind 5 (λ w. omega arith), ne-eqb kind 6 (λ w. omega arith), eq-eqb kind 7 k)
 

@@ -6,17 +6,17 @@ use mathlib.Core.Bool.{Bool, true, false, not}
 use Prim.Native.Nat.{ℕ, zero, suc, _≤_, _<_}
 use native.Mathlib.Omega.{arith}
 use borrow.Author.Tests.{lt-ltb, le-ltb, ne-eqb}
-use lib.ListN.{length, take, drop, length-drop}
+use lib.ListN.{length, drop, length-drop}
 use Rattle.base.specs.declared.Counts.{Counts}
 use Rattle.base.specs.Bits.{bitsOnly}
 use Rattle.base.specs.Refusal.{SHORT, BIT, accepted, when, reception}
 use Rattle.records.specs.Kinds.{symbolsOf, bodyLength}
 use Rattle.rm3014.specs.declared.Verdict.{Verdict}
 use Rattle.rm3014.specs.Verdict.{judged}
-use Rattle.errorcontrol_aach.specs.Access.{received}
+use Rattle.errorcontrol_aach.specs.Receiving.{verdictFrom}
 use Rattle.errorcontrol_cp.specs.Kinds.{isKind, wordBits, airSymbols}
 use Rattle.errorcontrol_cp.specs.Receiving as control
-use Rattle.errorcontrol_tp.specs.Speech as speech
+use Rattle.errorcontrol_tp.specs.Receiving as speech
 use Rattle.answers.specs.Chains.{controlAnswer, speechAnswer}
 use Rattle.answers.specs.Answering.{ofReceived, ofJudged, startOf, chainOf, answerOf}
 use Rattle.answers.specs.declared.Answer.the-variants.{Refused}
@@ -47,12 +47,12 @@ module _ (start : ℕ) (air : List ℕ) where
   chain-not-short (suc (suc (suc zero))) k e = control-not-short 3 (ap (λ (n : ℕ). control.receiveRefusal 3 n 288 288) e)
   chain-not-short (suc (suc (suc (suc zero)))) k e = control-not-short 4 (ap (λ (n : ℕ). control.receiveRefusal 4 n 288 288) e)
   chain-not-short (suc (suc (suc (suc (suc zero))))) k e =
-      λ f. judged-not-short (bitsOnly 30 air) (received start air) (rw (le-ltb (length air) 30 (omega arith)) at f)
+      λ f. judged-not-short (bitsOnly 30 air) (verdictFrom start air) (rw (le-ltb (length air) 30 (omega arith)) at f)
   chain-not-short (suc (suc (suc (suc (suc (suc zero)))))) k e =
-      heard-not-short (speech.receiveRefusal 432 (length air) 274 184) (speech.isGood start (take 432 air)) (speech.countsOf start (take 432 air))
+      heard-not-short (speech.receiveRefusal 432 (length air) 274 184) (speech.good (speech.wordFrom 432 start air)) (speech.countsOf 432 start air)
       (ap (λ (n : ℕ). speech.receiveRefusal 432 n 274 184) e)
   chain-not-short (suc (suc (suc (suc (suc (suc (suc zero))))))) k e =
-      heard-not-short (speech.receiveRefusal 216 (length air) 274 184) (speech.isGood start (speech.supplied air)) (speech.countsOf start (speech.supplied air))
+      heard-not-short (speech.receiveRefusal 216 (length air) 274 184) (speech.good (speech.wordFrom 216 start air)) (speech.countsOf 216 start air)
       (ap (λ (n : ℕ). speech.receiveRefusal 216 n 274 184) e)
   chain-not-short (suc (suc (suc (suc (suc (suc (suc (suc kind)))))))) k e = absurd (k refl)
 

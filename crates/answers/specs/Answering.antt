@@ -3,7 +3,7 @@
 use mathlib.Core.List.{List}
 use Prim.Native.Nat.{ℕ, _+_, _*_}
 use lib.Dec.{ltb, eqb}
-use lib.ListN.{length, getD, take, drop}
+use lib.ListN.{length, getD, drop}
 use Rattle.base.specs.Refusal.{SHORT, KIND}
 use Rattle.base.specs.declared.Received.{Received}
 use Rattle.base.specs.declared.Received.the-variants as received
@@ -11,8 +11,7 @@ use Rattle.records.specs.Kinds.{symbolsOf}
 use Rattle.records.specs.Recording.{pick}
 use Rattle.rm3014.specs.declared.Judged.{Judged}
 use Rattle.rm3014.specs.declared.Judged.the-variants as judged
-use Rattle.errorcontrol_aach.specs.Access.{decoded}
-use Rattle.errorcontrol_tp.specs.Speech.{supplied}
+use Rattle.errorcontrol_aach.specs.Receiving as access
 use Rattle.answers.specs.Chains.{controlAnswer, speechAnswer}
 use Rattle.answers.specs.declared.Answer.{Answer}
 use Rattle.answers.specs.declared.Answer.the-variants.{Good, Bad, Aach, Refused}
@@ -35,9 +34,9 @@ ofJudged (judged.Refused number) = Refused number
 -- the chain of a known kind: 05 is AACH, 06 a whole speech slot, 07 its second half, and the others are control
 unfoldable pub chainOf : ℕ → ℕ → List ℕ → Answer
 chainOf kind start air =
-    pick (eqb kind 5) (ofJudged (decoded start air))
-    (pick (eqb kind 6) (ofReceived (speechAnswer 432 start air (take 432 air)))
-    (pick (eqb kind 7) (ofReceived (speechAnswer 216 start air (supplied air))) (ofReceived (controlAnswer kind start air))))
+    pick (eqb kind 5) (ofJudged (access.answerOf start air))
+    (pick (eqb kind 6) (ofReceived (speechAnswer 432 start air))
+    (pick (eqb kind 7) (ofReceived (speechAnswer 216 start air)) (ofReceived (controlAnswer kind start air))))
 
 -- the answer to a record of the kind with the body: KIND where the kind is not known, SHORT where the start is not there, and otherwise its chain's
 unfoldable pub answerOf : ℕ → List ℕ → Answer

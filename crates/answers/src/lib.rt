@@ -3,8 +3,7 @@
 // A caller gets one answer for every kind, with the AACH verdict inside it.
 ghost use mathlib.Core.Path.{_≡_};
 ghost use Prim.Native.Nat.{_≤_, _<_};
-ghost use lib.ListN.{length, getD, take};
-ghost use Rattle.errorcontrol_tp.specs.Speech.{supplied};
+ghost use lib.ListN.{length, getD};
 ghost use Rattle.answers.specs.Chains.{controlAnswer, speechAnswer};
 ghost use Rattle.answers.specs.Answering.{startOf, ofReceived, ofJudged, chainOf, answerOf};
 use base::Counts;
@@ -72,7 +71,7 @@ fn control(kind: u8, start: u32, air: &[u8]) -> Received
 }
 
 fn slot(start: u32, air: &[u8]) -> Received
-    ensures { λ r. ⌜ r ≡ speechAnswer 432 start (now (air .entry)) (take 432 (now (air .entry))) ⌝ }
+    ensures { λ r. ⌜ r ≡ speechAnswer 432 start (now (air .entry)) ⌝ }
 {
     let mut codec = [0u8; 274];
     let mut trellis = [0u16; 184];
@@ -80,7 +79,7 @@ fn slot(start: u32, air: &[u8]) -> Received
 }
 
 fn half(start: u32, air: &[u8]) -> Received
-    ensures { λ r. ⌜ r ≡ speechAnswer 216 start (now (air .entry)) (supplied (now (air .entry))) ⌝ }
+    ensures { λ r. ⌜ r ≡ speechAnswer 216 start (now (air .entry)) ⌝ }
 {
     let mut codec = [0u8; 274];
     let mut trellis = [0u16; 184];

@@ -7,8 +7,8 @@ use Rattle.scrambler.specs.Scrambling.{newBit, next, nexts, output}
 use Rattle.rm3014.specs.Code.{table, columns, syndrome, placeOf}
 use Rattle.rm3014.specs.declared.Judged.the-variants.{Is}
 use Rattle.rm3014.specs.declared.Verdict.the-variants.{Mended}
-use Rattle.errorcontrol_aach.specs.Access.{received, decoded}
+use Rattle.errorcontrol_aach.specs.Receiving.{verdictFrom, answerOf}
 
-pub of-one-wrong-bit : decoded 0 (digits 30 0x20009b61) ≡ Is (Mended 30 0x2000)
-unfolding received tabulate newBit next nexts output table columns syndrome placeOf
+pub of-one-wrong-bit : answerOf 0 (digits 30 0x20009b61) ≡ Is (Mended 30 0x2000)
+unfolding verdictFrom tabulate newBit next nexts output table columns syndrome placeOf
 of-one-wrong-bit = refl

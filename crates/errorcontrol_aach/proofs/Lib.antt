@@ -1,4 +1,4 @@
 pub mod Numbers
 pub mod Chains
-pub mod AccessLaws
+pub mod RoundTrip
 pub mod Examples

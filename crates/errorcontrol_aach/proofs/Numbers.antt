@@ -12,12 +12,12 @@ use lib.Pow.{pow-pos, pow-lt, pow-mono}
 use lib.Seq.{take-suc, getD-take, length-take-le}
 use Rattle.base.specs.Bits.{Bits, bitsOnly}
 use Rattle.base.specs.Digits.{digits, number}
-use Rattle.base.specs.Places.{tabulate, written}
+use Rattle.base.specs.Places.{tabulate}
 use Rattle.base.proofs.BitLaws.{bits-of, bits-only-at}
 use Rattle.base.proofs.DigitLaws.{digits-length, digits-at, numberFrom, number-cons, number-lt}
-use Rattle.base.proofs.Lists.{tabulate-length, tabulate-of, written-whole}
+use Rattle.base.proofs.Lists.{tabulate-of}
 use Rattle.linear.specs.Linear.{turned}
-use Rattle.errorcontrol_aach.specs.Access.{flipped}
+use Rattle.errorcontrol_aach.specs.Hearing.{flipped}
 
 -- ---- a loop that reads a number
 number-last : (n : ℕ) (w : List ℕ) (b : ℕ) → numberFrom n (w ++ (b ∷ [])) ≡ numberFrom n w * 2 + b
@@ -47,12 +47,6 @@ sum-fits n i sum s h l e k f =
 -- ---- a loop that writes a number
 pub digits-tabulate : (k n : ℕ) → digits k n ≡ tabulate (λ j. n / 2 ^ (k - 1 - j) % 2) k
 digits-tabulate k n = tabulate-of (digits k n) (λ j. n / 2 ^ (k - 1 - j) % 2) k (digits-length k n) (λ j h. digits-at k n j h)
-
--- the first n entries, copied over as many
-pub front-copied : (n : ℕ) (s old : List ℕ) → n ≤ length s → length old ≡ n → written (tabulate (λ j. getD s j 0) n) old ≡ take n s
-front-copied n s old h e =
-    written-whole (tabulate (λ j. getD s j 0) n) old (tabulate-length (λ j. getD s j 0) n ∙ sym e)
-    ∙ sym (tabulate-of (take n s) (λ j. getD s j 0) n (length-take-le n s h) (λ j k. getD-take n s j 0 k))
 
 pub lowest-bit : (n : ℕ) → bitAnd n 1 ≡ n % 2
 lowest-bit n = and-mask n 1

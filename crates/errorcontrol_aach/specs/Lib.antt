@@ -1,1 +1,3 @@
-pub mod Access
+pub mod Sending
+pub mod Receiving
+pub mod Hearing

@@ -5,83 +5,17 @@ ghost use mathlib.Core.Path.{_≡_};
 ghost use mathlib.Core.Bool.{true};
 ghost use Prim.Native.Nat.{_≤_, _<_, _^_};
 ghost use lib.ListN.{length, take};
-ghost use Rattle.base.specs.Refusal.{outcome, unless};
 ghost use Rattle.base.specs.Bits.{bitsOnly};
 ghost use Rattle.base.specs.Digits.{digits, number};
 ghost use Rattle.base.specs.Places.{written};
-ghost use Rattle.errorcontrol_aach.specs.Access.{encodeRefusal, encoded, decodeRefusal, received, decoded};
+ghost use Rattle.stages.specs.Entries.{SendEntry};
+ghost use Rattle.errorcontrol_aach.specs.Sending.{sendRefusal, sent};
+ghost use Rattle.errorcontrol_aach.specs.Receiving.{receiveRefusal, verdictFrom, answerOf};
 use base::BIT;
+use base::Outcome;
 use base::ROOM;
 use base::SHORT;
-
-// Sends 14 data bits as 30 air bits, scrambled from start.
-pub fn encode_aach(start: u32, data: &[u8], air: &mut [u8]) -> base::Outcome
-    ensures { λ r. ⌜ (r ≡ outcome (encodeRefusal (now («data» .entry)) (length (now (air .entry))))) × (now (air .exit) ≡ unless (encodeRefusal (now («data» .entry)) (length (now (air .entry)))) (written (encoded start (now («data» .entry))) (now (air .entry))) (now (air .entry))) ⌝ }
-{
-    let refusal = encode_refusal(data, air.len());
-    if refusal != 0 {
-        return base::Outcome::Refused(refusal);
-    }
-    send(start, data, air)
-}
-
-// The verdict on 30 air bits that were scrambled from start.
-pub fn decode_aach(start: u32, air: &[u8]) -> rm3014::Judged
-    ensures { λ r. ⌜ r ≡ decoded start (now (air .entry)) ⌝ }
-{
-    let refusal = decode_refusal(air);
-    if refusal != 0 {
-        return rm3014::Judged::Refused(refusal);
-    }
-    rm3014::Judged::Is(receive(start, air))
-}
-
-fn encode_refusal(data: &[u8], room: usize) -> u8
-    ensures { λ r. ⌜ r ≡ encodeRefusal (now («data» .entry)) room ⌝ }
-{
-    if data.len() < 14 {
-        return SHORT;
-    }
-    if room < 30 {
-        return ROOM;
-    }
-    if base::inner::bits_only(data, 14) {
-        0
-    } else {
-        BIT
-    }
-}
-
-fn decode_refusal(air: &[u8]) -> u8
-    ensures { λ r. ⌜ r ≡ decodeRefusal (now (air .entry)) ⌝ }
-{
-    if air.len() < 30 {
-        return SHORT;
-    }
-    if base::inner::bits_only(air, 30) {
-        0
-    } else {
-        BIT
-    }
-}
-
-fn send(start: u32, data: &[u8], air: &mut [u8]) -> base::Outcome
-    requires { ⌜ (14 ≤ length (now «data»)) × (30 ≤ length (now air)) × (bitsOnly 14 (now «data») ≡ true) ⌝ }
-    ensures { λ r. ⌜ (r ≡ outcome 0) × (now (air .exit) ≡ written (encoded start (now («data» .entry))) (now (air .entry))) ⌝ }
-{
-    let word = rm3014::inner::code_word(number_of(data, 14) as u16);
-    write_word(word, air);
-    scrambler::tetra_scramb_bits(start, &mut air[..30])
-}
-
-fn receive(start: u32, air: &[u8]) -> rm3014::Verdict
-    requires { ⌜ (30 ≤ length (now air)) × (bitsOnly 30 (now air) ≡ true) ⌝ }
-    ensures { λ r. ⌜ r ≡ received start (now (air .entry)) ⌝ }
-{
-    let mut block = front(air);
-    scrambler::tetra_descramb_bits(start, &mut block);
-    rm3014::inner::verdict_of(number_of(&block, 30))
-}
+use rm3014::Judged;
 
 // The number that the first n bits say.
 fn number_of(bits: &[u8], n: usize) -> u32
@@ -97,6 +31,24 @@ fn number_of(bits: &[u8], n: usize) -> u32
     sum
 }
 
+// ---- sending
+
+// Which refusal sending owes, 0 for none.
+fn send_refusal(data: &[u8], air: usize) -> u8
+    ensures { λ r. ⌜ r ≡ sendRefusal (now («data» .entry)) air ⌝ }
+{
+    if data.len() < 14 {
+        return SHORT;
+    }
+    if air < 30 {
+        return ROOM;
+    }
+    if base::inner::bits_only(data, 14) {
+        return 0;
+    }
+    BIT
+}
+
 // The 30 bits of a word over the front of air, the most significant first.
 fn write_word(word: u32, air: &mut [u8])
     requires { ⌜ 30 ≤ length (now air) ⌝ }
@@ -109,14 +61,60 @@ fn write_word(word: u32, air: &mut [u8])
     }
 }
 
-// The first 30 entries.
-fn front(air: &[u8]) -> [u8; 30]
-    requires { ⌜ 30 ≤ length (now air) ⌝ }
-    ensures { λ r. ⌜ r ≡ take 30 (now (air .entry)) ⌝ }
+// The air bits of the data, over the front of the target.
+fn send(start: u32, data: &[u8], air: &mut [u8])
+    requires { ⌜ (14 ≤ length (now «data»)) × (30 ≤ length (now air)) × (bitsOnly 14 (now «data») ≡ true) ⌝ }
+    ensures { λ _. ⌜ now (air .exit) ≡ written (sent start (now («data» .entry))) (now (air .entry)) ⌝ }
+{
+    let word = rm3014::inner::code_word(number_of(data, 14) as u16);
+    write_word(word, air);
+    stages::inner::scramble(start, &mut air[..30]);
+}
+
+// Sends 14 data bits as 30 air bits, scrambled from start. Refusals: SHORT, ROOM, BIT.
+pub fn encode_aach(start: u32, data: &[u8], air: &mut [u8]) -> Outcome
+    ensures { λ r. ⌜ SendEntry (sendRefusal (now («data» .entry))) (sent start (now («data» .entry))) (now (air .entry)) r (now (air .exit)) ⌝ }
+{
+    let refusal = send_refusal(data, air.len());
+    if refusal != 0 {
+        return Outcome::Refused(refusal);
+    }
+    send(start, data, air);
+    Outcome::Done
+}
+
+// ---- receiving
+
+// Which refusal receiving owes, 0 for none.
+fn receive_refusal(air: &[u8]) -> u8
+    ensures { λ r. ⌜ r ≡ receiveRefusal (now (air .entry)) ⌝ }
+{
+    if air.len() < 30 {
+        return SHORT;
+    }
+    if base::inner::bits_only(air, 30) {
+        return 0;
+    }
+    BIT
+}
+
+// The verdict on the word that the air bits say.
+fn receive(start: u32, air: &[u8]) -> rm3014::Verdict
+    requires { ⌜ (30 ≤ length (now air)) × (bitsOnly 30 (now air) ≡ true) ⌝ }
+    ensures { λ r. ⌜ r ≡ verdictFrom start (now (air .entry)) ⌝ }
 {
     let mut block = [0u8; 30];
-    for i in 0..30 {
-        block[i] = air[i];
+    stages::inner::descramble(start, air, &mut block);
+    rm3014::inner::verdict_of(number_of(&block, 30))
+}
+
+// Receives 30 air bits that were scrambled from start: the verdict, with the data bits as a number. Refusals: SHORT, BIT.
+pub fn decode_aach(start: u32, air: &[u8]) -> Judged
+    ensures { λ r. ⌜ r ≡ answerOf start (now (air .entry)) ⌝ }
+{
+    let refusal = receive_refusal(air);
+    if refusal != 0 {
+        return Judged::Refused(refusal);
     }
-    block
+    Judged::Is(receive(start, air))
 }

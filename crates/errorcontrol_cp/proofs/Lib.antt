@@ -2,8 +2,6 @@ pub mod Rows
 pub mod Refusals
 pub mod Parts
 pub mod Words
-pub mod Calls
-pub mod Ground
-pub mod OnAir
+pub mod Demand
 pub mod Chains
 pub mod RoundTrip

@@ -10,14 +10,13 @@ use Rattle.base.specs.Bits.{both}
 use Rattle.puncturing.specs.Puncturing.{position, needed}
 use Rattle.interleaver.specs.Interleaving.{shared}
 use Rattle.errorcontrol_cp.specs.Kinds.{isKind, dataBits, wordBits, airSymbols, interleaverStep}
-use Rattle.errorcontrol_cp.specs.Sending.{MODE}
 
 pub record Row (kind : ℕ) : Type 0 where
   -- data, 16 check bits and 4 zeros
   pub word : wordBits kind ≡ dataBits kind + 20
   -- mode 2_3 keeps 3 of 8 mother symbols, and a word's bit has 4
   pub air : 2 * airSymbols kind ≡ 3 * wordBits kind
-  pub reach : needed MODE (airSymbols kind) ≤ 4 * wordBits kind
+  pub reach : needed 0 (airSymbols kind) ≤ 4 * wordBits kind
   pub alone : shared (airSymbols kind) (interleaverStep kind) ≡ false
   pub most : dataBits kind ≤ 268
   pub step : interleaverStep kind ≤ 65535

@@ -2,33 +2,28 @@
 -- Assumes nothing.
 use mathlib.Core.List.{List, [], _∷_, _++_}
 use mathlib.Core.Bool.{not}
-use mathlib.Core.Path.{_≡_}
 use Prim.Native.Nat.{ℕ}
 use lib.Dec.{ltb}
 use lib.ListN.{length, take, replicate}
 use Rattle.base.specs.declared.Outcome.{Outcome}
-use Rattle.base.specs.Refusal.{SHORT, ROOM, BIT, KIND, accepted, when, unless, outcome}
+use Rattle.base.specs.Refusal.{SHORT, ROOM, BIT, KIND, accepted, when}
 use Rattle.base.specs.Bits.{bitsOnly}
-use Rattle.base.specs.Places.{written}
 use Rattle.trellis.specs.Nearest.{encode}
 use Rattle.crc16.specs.Crc.{check}
 use Rattle.convenc.specs.Generators.{control, outputs}
 use Rattle.puncturing.specs.Puncturing.{punctured}
 use Rattle.interleaver.specs.Interleaving.{interleaved}
 use Rattle.scrambler.specs.Scrambling.{scrambled}
+use Rattle.stages.specs.Entries.{SendEntry}
 use Rattle.errorcontrol_cp.specs.Kinds.{isKind, dataBits, airSymbols, interleaverStep}
 
 -- the word of a data block: the data, its check, four zeros
 abbrev pub wordOf : List ℕ → List ℕ
 wordOf block = block ++ check block ++ (0 ∷ 0 ∷ 0 ∷ 0 ∷ [])
 
--- puncturing mode 2_3
-abbrev pub MODE : ℕ
-MODE = 0
-
--- the coded symbols of a word: those that mode 2_3 keeps of its mother code from the zero state
+-- the coded symbols of a word: those that mode 0, 2_3, keeps of its mother code from the zero state
 unfoldable pub coded : ℕ → List ℕ → List ℕ
-coded kind w = punctured MODE (airSymbols kind) (encode (outputs control) 0 w)
+coded kind w = punctured 0 (airSymbols kind) (encode (outputs control) 0 w)
 
 -- the air symbols that a word is sent as
 unfoldable pub sent : ℕ → ℕ → List ℕ → List ℕ
@@ -41,6 +36,5 @@ sendRefusal kind block air =
     (when (ltb air (airSymbols kind)) ROOM (when (not (bitsOnly (dataBits kind) block)) BIT accepted)))
 
 -- what `encode_cp` answers and leaves in its target
-pub record Sends (kind start : ℕ) (block air : List ℕ) (answer : Outcome) (air′ : List ℕ) : Type 0 where
-  pub answered : answer ≡ outcome (sendRefusal kind block (length air))
-  pub target : air′ ≡ unless (sendRefusal kind block (length air)) (written (sent kind start (wordOf (take (dataBits kind) block))) air) air
+abbrev pub Sends : ℕ → ℕ → List ℕ → List ℕ → Outcome → List ℕ → Type 0
+Sends kind start block = SendEntry (sendRefusal kind block) (sent kind start (wordOf (take (dataBits kind) block)))

@@ -3,22 +3,19 @@
 // start value is always the caller's, erasures are received, and the whole decoded word is written with its count of
 // disagreements. A caller gets the word whose sending is nearest to what was received, and whether its check agrees.
 ghost use mathlib.Core.Path.{_≡_};
-ghost use mathlib.Core.Bool.{true, false};
-ghost use Prim.Native.Nat.{_+_, _*_, _≤_, _<_};
+ghost use mathlib.Core.Bool.{true};
+ghost use Prim.Native.Nat.{_+_, _*_, _≤_};
 ghost use lib.Dec.{eqb};
 ghost use lib.ListN.{length, take, replicate};
 ghost use Rattle.base.specs.Refusal.{accepted, checked};
-ghost use Rattle.base.specs.Bits.{Bits, bitsOnly};
+ghost use Rattle.base.specs.Bits.{bitsOnly};
 ghost use Rattle.base.specs.Places.{written};
 ghost use Rattle.trellis.specs.Nearest.{encode};
 ghost use Rattle.crc16.specs.Crc.{register, OK};
 ghost use Rattle.convenc.specs.Generators.{control, outputs};
-ghost use Rattle.puncturing.specs.Puncturing.{needed, punctured, depunctured};
-ghost use Rattle.interleaver.specs.Interleaving.{shared, interleaved, deinterleaved};
-ghost use Rattle.scrambler.specs.Scrambling.{scrambled, descrambled};
 ghost use Rattle.viterbi.specs.Decoding.{decoded, disagreements, cleared};
 ghost use Rattle.errorcontrol_cp.specs.Kinds.{isKind, dataBits, Numbers};
-ghost use Rattle.errorcontrol_cp.specs.Sending.{MODE, wordOf, sent, sendRefusal, Sends};
+ghost use Rattle.errorcontrol_cp.specs.Sending.{wordOf, sent, sendRefusal, Sends};
 ghost use Rattle.errorcontrol_cp.specs.Receiving.{receiveRefusal, Receives};
 use base::BIT;
 use base::Counts;
@@ -104,17 +101,6 @@ fn encode_word(count: usize, data: &[u8], mother: &mut [u8])
     convenc::ConvEncState::new().encode(&word[..n], mother);
 }
 
-// The symbols that mode 2_3 keeps of a mother code, moved to their places and scrambled, over the whole target.
-fn put_on_air(k: usize, a: usize, start: u32, mother: &[u8], air: &mut [u8])
-    requires { ⌜ (k ≤ 432) × (a ≤ 65535) × (shared k a ≡ false) × (needed MODE k ≤ length (now mother)) × Bits (now mother) × (length (now air) ≡ k) ⌝ }
-    ensures { λ _. ⌜ now (air .exit) ≡ scrambled start (interleaved k a (punctured MODE k (now (mother .entry))) (replicate k 0)) ⌝ }
-{
-    let mut coded = [0u8; 432];
-    puncturing::get_punctured_rate(MODE, mother, k, &mut coded[..k]);
-    interleaver::block_interleave(k, a, &coded[..k], air);
-    scrambler::tetra_scramb_bits(start, air);
-}
-
 // The air symbols of the data's word, over the front of the target.
 fn send(kind: u8, start: u32, data: &[u8], air: &mut [u8])
     requires { ⌜ sendRefusal kind (now «data») (length (now air)) ≡ accepted ⌝ }
@@ -125,7 +111,7 @@ fn send(kind: u8, start: u32, data: &[u8], air: &mut [u8])
     let k = params.air;
     let mut mother = [0u8; 1152];
     encode_word(params.data, data, &mut mother[..symbols]);
-    put_on_air(k, params.a, start, &mother[..symbols], &mut air[..k]);
+    stages::inner::put_on_air(MODE, k, params.a, start, &mother[..symbols], &mut air[..k]);
 }
 
 // Sends a data block as the air symbols of its kind, scrambled from start. Refusals: KIND, SHORT, ROOM, BIT.
@@ -163,37 +149,8 @@ fn receive_refusal(kind: u8, air: usize, word: usize, trellis: usize) -> u8
     0
 }
 
-// As many air symbols as the target holds, without their scrambling.
-fn descramble(start: u32, air: &[u8], plain: &mut [u8])
-    requires { ⌜ length (now plain) ≤ length (now air) ⌝ }
-    ensures { λ _. ⌜ now (plain .exit) ≡ descrambled start (take (length (now (plain .entry))) (now (air .entry))) ⌝ }
-{
-    base::inner::copy(air, plain);
-    scrambler::tetra_descramb_bits(start, plain);
-}
-
-// The first k air symbols without their scrambling, each fetched from its place.
-fn recover_coded(k: usize, a: usize, start: u32, air: &[u8], coded: &mut [u8])
-    requires { ⌜ (k ≤ 432) × (a ≤ 65535) × (shared k a ≡ false) × (k ≤ length (now air)) × (length (now coded) ≡ k) ⌝ }
-    ensures { λ _. ⌜ now (coded .exit) ≡ deinterleaved k a (descrambled start (take k (now (air .entry)))) ⌝ }
-{
-    let mut plain = [0u8; 432];
-    descramble(start, air, &mut plain[..k]);
-    interleaver::block_deinterleave(k, a, &plain[..k], coded);
-}
-
-// The same at the places that mode 2_3 keeps of a mother target; its other entries stay.
-fn recover_mother(k: usize, a: usize, start: u32, air: &[u8], mother: &mut [u8])
-    requires { ⌜ (k ≤ 432) × (a ≤ 65535) × (shared k a ≡ false) × (k ≤ length (now air)) × (needed MODE k ≤ length (now mother)) ⌝ }
-    ensures { λ _. ⌜ now (mother .exit) ≡ depunctured MODE k (deinterleaved k a (descrambled start (take k (now (air .entry))))) (now (mother .entry)) ⌝ }
-{
-    let mut coded = [0u8; 432];
-    recover_coded(k, a, start, air, &mut coded[..k]);
-    puncturing::tetra_rcpc_depunct(MODE, &coded[..k], k, mother);
-}
-
 // Whether the check agrees, over the first count entries and the 16 after them.
-fn verdict(count: usize, word: &[u8], disagreements: usize) -> Received
+fn judge(count: usize, word: &[u8], disagreements: usize) -> Received
     requires { ⌜ count ≤ 268 ⌝ }
     ensures { λ r. ⌜ r ≡ checked (eqb (register 0xffff (take (count + 16) (now (word .entry)))) OK) (record { disagreements = disagreements }) ⌝ }
 {
@@ -215,11 +172,12 @@ fn settle(count: usize, n: usize, mother: &[u8], word: &mut [u8], trellis: &mut 
 {
     let answer = viterbi::dec_sb1(mother, word, n, trellis);
     match answer {
-        base::Valued::Value(disagreements) => verdict(count, word, disagreements),
+        base::Valued::Value(disagreements) => judge(count, word, disagreements),
         base::Valued::Refused(number) => Received::Refused(number),
     }
 }
 
+// The nearest word to the air symbols, over the front of the target, and what its check says.
 fn receive(kind: u8, start: u32, air: &[u8], word: &mut [u8], trellis: &mut [u16]) -> Received
     requires { ⌜ receiveRefusal kind (length (now air)) (length (now word)) (length (now trellis)) ≡ accepted ⌝ }
     ensures { λ r. ⌜ Receives kind start (now (air .entry)) (now (word .entry)) (now (trellis .entry)) r (now (word .exit)) (now (trellis .exit)) ⌝ }
@@ -228,7 +186,14 @@ fn receive(kind: u8, start: u32, air: &[u8], word: &mut [u8], trellis: &mut [u16
     let n = params.word;
     let symbols = 4 * n;
     let mut mother = [0xffu8; 1152];
-    recover_mother(params.air, params.a, start, air, &mut mother[..symbols]);
+    stages::inner::take_off_air(
+        MODE,
+        params.air,
+        params.a,
+        start,
+        air,
+        &mut mother[..symbols],
+    );
     settle(params.data, n, &mother[..symbols], word, trellis)
 }
 

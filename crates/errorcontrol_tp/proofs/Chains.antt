@@ -4,11 +4,10 @@ use mathlib.Core.Path.{_≡_, refl, sym, ap, ap₂, _∙_, subst}
 use mathlib.Core.List.{List, [], _∷_, _++_, map, append-assoc, append-nil}
 use Prim.Native.Nat.{ℕ, _+_, _*_, _≤_}
 use native.Mathlib.Omega.{arith}
-use borrow.Author.Tests.{le-ltb}
 use borrow.Rule.Slice.PartMut.{putMid}
 use lib.ListN.{length, take, drop, replicate, length-append, length-drop, length-replicate}
 use lib.Seq.{length-take-le, take-all, take-at, drop-at, drop-length}
-use Rattle.base.specs.Refusal.{unless, accepted}
+use Rattle.base.specs.Refusal.{accepted}
 use Rattle.base.specs.Bits.{Bits, ERASED}
 use Rattle.base.specs.Places.{written}
 use Rattle.base.proofs.BitLaws.{bits-append}
@@ -16,9 +15,8 @@ use Rattle.base.proofs.Moves.{gather-length, scatter-length, scatter-over}
 use Rattle.base.proofs.Lists.{written-whole}
 use Rattle.trellis.specs.Nearest.{encode, after}
 use Rattle.convenc.specs.Generators.{outputs, speech, encodeRefusal, InTurn}
-use Rattle.puncturing.specs.Puncturing.{punctured, depunctured, punctureRefusal, depunctureRefusal, keptPlace, needed, position}
+use Rattle.puncturing.specs.Puncturing.{punctured, depunctured, keptPlace, needed, position}
 use Rattle.convenc.proofs.Calls.{encode-accepts}
-use Rattle.puncturing.proofs.Refusing.{puncture-accepts, depuncture-accepts}
 use Rattle.convenc.proofs.Encoding.{encoded-length}
 use Rattle.trellis.proofs.Encoding.{encode-append}
 use Rattle.trellis.proofs.Words.{bits-drop, zeros-bits}
@@ -31,10 +29,15 @@ use Rattle.base.specs.Refusal.{checked}
 use Rattle.trellis.proofs.Winners.{nearest-length}
 use Rattle.base.specs.declared.Valued.{Valued}
 use Rattle.base.specs.declared.Valued.the-variants.{Value, Refused}
-use Rattle.viterbi.specs.Decoding.{decodeRefusal, Decodes, decoded, disagreements, cleared}
-use Rattle.errorcontrol_tp.specs.Speech.{uncoded, speechWord, codedOf, motherOf, onAir, slot, blockOf, wordOf, slotDisagreements, sameBits, isGood, countsOf, codecBits, readBit, supplied}
+use Rattle.viterbi.specs.Decoding.{Decodes, decoded, disagreements}
+use Rattle.interleaver.specs.Interleaving.{matrixDeinterleaved}
+use Rattle.scrambler.specs.Scrambling.{descrambled}
+use Rattle.stages.proofs.Decoding.{word-written, trellis-cleared, count-is, never-refused}
+use Rattle.stages.proofs.Entries.{receives-done}
+use Rattle.errorcontrol_tp.specs.Sending.{wordOf, coded, onAir, slot}
+use Rattle.errorcontrol_tp.specs.Receiving.{slotOf, blockOf, motherOf, wordFrom, countsOf, good, readBit, codecBits, receiveRefusal, Receives}
+use Rattle.errorcontrol_tp.specs.Settling.{wordIn, Settles}
 use Rattle.errorcontrol_tp.proofs.Mother.{bits-take, mother-long}
-use Rattle.errorcontrol_tp.proofs.Parts.{whole, made}
 
 -- ---- an array written in parts
 pub two-parts : (p z q : List ℕ) (a b : ℕ) → length p ≡ a → length z ≡ b → putMid a b (p ++ z) q ≡ p ++ q
@@ -81,18 +84,6 @@ needed-second : needed 5 162 ≤ 216
 unfolding needed position
 needed-second = omega arith
 
--- ---- puncturing and depuncturing into a part that is as long as it must be
-pub punctured-into : (mode n : ℕ) (mother room q : List ℕ) → mode ≤ 6 → n ≤ 4096 → needed mode n ≤ length mother → length room ≡ n
-    → q ≡ unless (punctureRefusal mode n (length mother) (length room)) (written (punctured mode n mother) room) room → q ≡ punctured mode n mother
-punctured-into mode n mother room q k l h e p =
-    whole (punctureRefusal mode n (length mother) (length room)) (punctured mode n mother) room q
-    (puncture-accepts mode n (length mother) (length room) k l h (omega arith)) (gather-length (keptPlace mode) n mother ∙ sym e) p
-
-pub depunctured-into : (mode n : ℕ) (src room q : List ℕ) → mode ≤ 6 → n ≤ 4096 → n ≤ length src → needed mode n ≤ length room
-    → q ≡ unless (depunctureRefusal mode n (length src) (length room)) (depunctured mode n src room) room → q ≡ depunctured mode n src room
-depunctured-into mode n src room q k l h r p =
-    made (depunctureRefusal mode n (length src) (length room)) (depunctured mode n src room) room q (depuncture-accepts mode n (length src) (length room) k l h r) p
-
 -- ---- the block that is sent
 module _ (channel one two p q r : List ℕ) (long : length channel ≡ 274) (wide : length one ≡ 336) (wider : length two ≡ 216) (front : p ≡ take 102 (take 102 channel)) where
   front-is : p ≡ take 102 channel
@@ -107,12 +98,16 @@ module _ (channel one two p q r : List ℕ) (long : length channel ≡ 274) (wid
   abbrev gap : List ℕ
   gap = take 168 (drop 102 (p ++ replicate 330 0))
 
-  gap-long : length gap ≡ 168
+  pub gap-long : length gap ≡ 168
   gap-long = length-take-le 168 (drop 102 (p ++ replicate 330 0)) (omega (arith, length-drop 102 (p ++ replicate 330 0), front-room))
 
-  module _ (second : q ≡ unless (punctureRefusal 4 168 (length one) (length gap)) (written (punctured 4 168 one) gap) gap) where
+  -- the first mode's part is as long as it must be
+  pub gap-needs : needed 4 (length gap) ≤ length one
+  gap-needs = subst (λ (n : ℕ). needed 4 n ≤ length one) (sym gap-long) (omega (arith, needed-first))
+
+  module _ (second : q ≡ punctured 4 (length gap) one) where
     q-is : q ≡ punctured 4 168 one
-    q-is = punctured-into 4 168 one gap q (omega arith) (omega arith) (omega (arith, needed-first)) gap-long second
+    q-is = second ∙ ap (λ (n : ℕ). punctured 4 n one) gap-long
 
     pub q-long : length q ≡ 168
     q-long = ap length q-is ∙ gather-length (keptPlace 4) 168 one
@@ -129,23 +124,30 @@ module _ (channel one two p q r : List ℕ) (long : length channel ≡ 274) (wid
     abbrev rest : List ℕ
     rest = take 162 (drop 270 (putMid 102 168 (p ++ replicate 330 0) q))
 
-    rest-long : length rest ≡ 162
+    pub rest-long : length rest ≡ 162
     rest-long = length-take-le 162 (drop 270 (putMid 102 168 (p ++ replicate 330 0) q)) (omega (arith, length-drop 270 (putMid 102 168 (p ++ replicate 330 0) q), then-room))
 
-    pub block-made : r ≡ unless (punctureRefusal 5 162 (length two) (length rest)) (written (punctured 5 162 two) rest) rest
+    pub rest-needs : needed 5 (length rest) ≤ length two
+    rest-needs = subst (λ (n : ℕ). needed 5 n ≤ length two) (sym rest-long) (omega (arith, needed-second))
+
+    pub block-made : r ≡ punctured 5 (length rest) two
         → putMid 270 162 (putMid 102 168 (p ++ replicate 330 0) q) r ≡ take 102 channel ++ (punctured 4 168 one ++ punctured 5 162 two)
     block-made third =
         ap (λ (x : List ℕ). putMid 270 162 x r) then ∙ two-parts (p ++ q) (replicate 162 0) r 270 162 both-long refl
-        ∙ append-assoc p q r ∙ ap₂ (λ (x y : List ℕ). x ++ y) front-is (ap₂ (λ (x y : List ℕ). x ++ y) q-is
-        (punctured-into 5 162 two rest r (omega arith) (omega arith) (omega (arith, needed-second)) rest-long third))
+        ∙ append-assoc p q r
+        ∙ ap₂ (λ (x y : List ℕ). x ++ y) front-is (ap₂ (λ (x y : List ℕ). x ++ y) q-is (third ∙ ap (λ (n : ℕ). punctured 5 n two) rest-long))
 
 -- ---- the mother symbols of a received block
 module _ (block p q : List ℕ) (long : length block ≡ 432)
-    (first : p ≡ unless (depunctureRefusal 4 168 (length (take 168 (drop 102 block))) 336) (depunctured 4 168 (take 168 (drop 102 block)) (replicate 336 ERASED)) (replicate 336 ERASED)) where
+    (first : p ≡ depunctured 4 (length (take 168 (drop 102 block))) (take 168 (drop 102 block)) (replicate 336 ERASED)) where
+  one-long : length (take 168 (drop 102 block)) ≡ 168
+  one-long = length-take-le 168 (drop 102 block) (omega (arith, length-drop 102 block))
+
+  two-long : length (take 162 (drop 270 block)) ≡ 162
+  two-long = length-take-le 162 (drop 270 block) (omega (arith, length-drop 270 block))
+
   symbols-first : p ≡ depunctured 4 168 (take 168 (drop 102 block)) (replicate 336 ERASED)
-  symbols-first =
-      depunctured-into 4 168 (take 168 (drop 102 block)) (replicate 336 ERASED) p (omega arith) (omega arith)
-      (omega (arith, length-take-le 168 (drop 102 block) (omega (arith, length-drop 102 block)))) (omega (arith, needed-first)) first
+  symbols-first = first ∙ ap (λ (n : ℕ). depunctured 4 n (take 168 (drop 102 block)) (replicate 336 ERASED)) one-long
 
   pub symbols-long : length p ≡ 336
   symbols-long = ap length symbols-first ∙ scatter-length (keptPlace 4) 168 (take 168 (drop 102 block)) (replicate 336 ERASED)
@@ -156,18 +158,27 @@ module _ (block p q : List ℕ) (long : length block ≡ 432)
   abbrev spare : List ℕ
   spare = take 216 (drop 336 (p ++ replicate 216 ERASED))
 
-  pub symbols-made : q ≡ unless (depunctureRefusal 5 162 (length (take 162 (drop 270 block))) (length spare)) (depunctured 5 162 (take 162 (drop 270 block)) spare) spare
+  spared : spare ≡ replicate 216 ERASED
+  spared = spare-is p (replicate 216 ERASED) 336 216 symbols-long refl
+
+  pub spare-needs : (length (take 162 (drop 270 block)) ≤ 4096) × (needed 5 (length (take 162 (drop 270 block))) ≤ length spare)
+  spare-needs = (
+    omega (arith, two-long),
+    subst (λ (n : ℕ). needed 5 n ≤ length spare) (sym two-long) (omega (arith, needed-second, ap length spared)),
+  )
+
+  pub symbols-made : q ≡ depunctured 5 (length (take 162 (drop 270 block))) (take 162 (drop 270 block)) spare
       → putMid 336 216 (p ++ replicate 216 ERASED) q ≡ motherOf block
   unfolding motherOf
   symbols-made e =
       two-parts p (replicate 216 ERASED) q 336 216 symbols-long refl
-      ∙ ap₂ (λ (x y : List ℕ). x ++ y) symbols-first
-      (depunctured-into 5 162 (take 162 (drop 270 block)) spare q (omega arith) (omega arith)
-      (omega (arith, length-take-le 162 (drop 270 block) (omega (arith, length-drop 270 block)))) (omega (arith, needed-second, ap length spared)) e
-      ∙ ap (depunctured 5 162 (take 162 (drop 270 block))) spared)
-    where
-      spared : spare ≡ replicate 216 ERASED
-      spared = spare-is p (replicate 216 ERASED) 336 216 symbols-long refl
+      ∙ ap₂ (λ (x y : List ℕ). x ++ y) symbols-first (e ∙ ap₂ (λ (n : ℕ) (l : List ℕ). depunctured 5 n (take 162 (drop 270 block)) l) two-long spared)
+
+pub first-needs : (block : List ℕ) → length block ≡ 432
+    → (length (take 168 (drop 102 block)) ≤ 4096) × (needed 4 (length (take 168 (drop 102 block))) ≤ 336)
+first-needs block long =
+    let size = length-take-le 168 (drop 102 block) (omega (arith, length-drop 102 block)) in
+    (omega (arith, size), subst (λ (n : ℕ). needed 4 n ≤ 336) (sym size) needed-first)
 
 -- ---- the slot from its stages
 pub class2-plain : (channel class2 : List ℕ) → Bits channel → class2 ≡ take 60 (drop 214 channel) ++ speechCheck (take 60 (drop 214 channel)) ++ replicate 4 0 → Bits class2
@@ -179,8 +190,8 @@ class2-plain channel class2 b e =
     bits = take 60 (drop 214 channel)
 
 pub word-joined : (channel class2 : List ℕ) → class2 ≡ take 60 (drop 214 channel) ++ speechCheck (take 60 (drop 214 channel)) ++ replicate 4 0
-    → take 112 (drop 102 channel) ++ class2 ≡ speechWord channel
-unfolding speechWord
+    → take 112 (drop 102 channel) ++ class2 ≡ wordOf channel
+unfolding wordOf
 word-joined channel class2 e =
     ap (λ (l : List ℕ). take 112 (drop 102 channel) ++ l) e
     ∙ sym (append-assoc first (bits ++ speechCheck bits) (replicate 4 0)) ∙ ap (λ (l : List ℕ). l ++ replicate 4 0) (sym (append-assoc first bits (speechCheck bits)))
@@ -194,13 +205,13 @@ word-joined channel class2 e =
 pub block-is : (channel class2 one two block : List ℕ) → length one ≡ 336 → class2 ≡ take 60 (drop 214 channel) ++ speechCheck (take 60 (drop 214 channel)) ++ replicate 4 0
     → one ++ two ≡ encode (outputs speech) 0 (take 112 (drop 102 channel) ++ class2)
     → block ≡ take 102 channel ++ (punctured 4 168 one ++ punctured 5 162 two)
-    → block ≡ uncoded channel ++ codedOf (speechWord channel)
-unfolding codedOf
+    → block ≡ take 102 channel ++ coded (wordOf channel)
+unfolding coded
 block-is channel class2 one two block l e f g =
     g ∙ ap₂ (λ (x y : List ℕ). take 102 channel ++ (punctured 4 168 x ++ punctured 5 162 y))
     (sym (take-at one two 336 l) ∙ ap (take 336) joined) (sym (drop-at one two 336 l) ∙ ap (drop 336) joined)
   where
-    joined : one ++ two ≡ encode (outputs speech) 0 (speechWord channel)
+    joined : one ++ two ≡ encode (outputs speech) 0 (wordOf channel)
     joined = f ∙ ap (encode (outputs speech) 0) (word-joined channel class2 e)
 
 -- the codec bits over a target
@@ -216,7 +227,7 @@ pub slot-is : (start : ℕ) (codec channel class2 one two block air : List ℕ) 
     → air ≡ onAir start block → air ≡ slot start codec
 unfolding slot
 slot-is start codec channel class2 one two block air l c e f g h =
-    h ∙ ap (onAir start) (block-is channel class2 one two block l e f g) ∙ ap (λ (x : List ℕ). onAir start (uncoded x ++ codedOf (speechWord x))) c
+    h ∙ ap (onAir start) (block-is channel class2 one two block l e f g) ∙ ap (λ (x : List ℕ). onAir start (take 102 x ++ coded (wordOf x))) c
 
 -- symbols copied over the front of a target
 pub copied-over : (n : ℕ) (symbols air q : List ℕ) → length symbols ≡ n → n ≤ length air → q ≡ take (length (take n air)) symbols
@@ -225,60 +236,45 @@ copied-over n symbols air q e h p =
     ap₂ (λ (x : List ℕ) (k : ℕ). x ++ drop k air) (p ∙ take-all (length (take n air)) symbols (omega (arith, length-take-le n air h))) (sym e)
 
 -- ---- the slot that is received
-module _ (start : ℕ) (slot block mother blank word trellis trellis′ : List ℕ) (answer : Valued) (steps : 184 ≤ length trellis)
-    (b : block ≡ blockOf start slot) (m : mother ≡ motherOf block) (room : length blank ≡ 184)
-    (call : Decodes speech 184 mother blank word trellis trellis′ answer) where
+pub block-came : (start : ℕ) (air block : List ℕ) → length air ≡ 432 → block ≡ matrixDeinterleaved 24 18 (descrambled start (take 432 air)) → block ≡ blockOf start air
+unfolding blockOf
+block-came start air block e p = p ∙ ap (λ (l : List ℕ). matrixDeinterleaved 24 18 (descrambled start l)) (take-all 432 air (omega arith))
+
+module _ (block mother blank word codec left trellis trellis′ : List ℕ) (decision : Valued) (steps : 184 ≤ length trellis) (target : 274 ≤ length codec)
+    (m : mother ≡ motherOf block) (room : length blank ≡ 184) (call : Decodes speech 184 mother blank word trellis trellis′ decision) where
   mother-whole : length mother ≡ 552
   mother-whole = ap length m ∙ mother-long block
 
-  decode-free : decodeRefusal speech 184 (length mother) (length trellis) (length blank) ≡ 0
-  decode-free = rw (le-ltb (length mother) 552 (omega (arith, mother-whole)), le-ltb (length trellis) 184 steps, le-ltb (length blank) 184 (omega arith))
-
-  mother-same : mother ≡ motherOf (blockOf start slot)
-  mother-same = m ∙ ap motherOf b
-
-  pub word-decoded : word ≡ wordOf start slot
-  unfolding wordOf
+  word-decoded : word ≡ wordIn block
   word-decoded =
-      whole (decodeRefusal speech 184 (length mother) (length trellis) (length blank)) (decoded speech 184 mother) blank word decode-free
-      (nearest-length (disagreements speech 184 mother) 184 ∙ sym room) (call .writes)
-      ∙ ap (decoded speech 184) mother-same
+      word-written call (omega arith) mother-whole (omega arith) steps
+      ∙ written-whole (decoded speech 184 mother) blank (nearest-length (disagreements speech 184 mother) 184 ∙ sym room)
+      ∙ ap (decoded speech 184) m
 
-  answer-is : answer ≡ Value (disagreements speech 184 mother (decoded speech 184 mother))
-  answer-is = rw decode-free at (call .answers)
+  pub settles : (n : ℕ) (answer : Received) → decision ≡ Value n → answer ≡ checked (good word) (record { disagreements = n })
+      → left ≡ codecOf (map readBit (take 102 block) ++ take 172 word) codec → Settles block codec trellis answer left trellis′
+  settles n answer w a l =
+      record {
+        answered = a ∙ ap₂ (λ (v : List ℕ) (k : ℕ). checked (good v) (record { disagreements = k })) word-decoded
+            (count-is call (omega arith) mother-whole (omega arith) steps n w ∙ ap (λ (s : List ℕ). disagreements speech 184 s (decoded speech 184 s)) m);
+        target = l ∙ codec-over (map readBit (take 102 block) ++ take 172 word) codec target
+            ∙ ap (λ (v : List ℕ). written (codecOf (map readBit (take 102 block) ++ take 172 v) (replicate 274 0)) codec) word-decoded;
+        clears = trellis-cleared call (omega arith) mother-whole (omega arith) steps;
+      }
 
-  pub count-decoded : (n : ℕ) → answer ≡ Value n → n ≡ slotDisagreements start slot
-  unfolding slotDisagreements wordOf
-  count-decoded n e = number n (sym e ∙ answer-is) ∙ ap (λ (l : List ℕ). disagreements speech 184 l (decoded speech 184 l)) mother-same
-    where
-      number : (n : ℕ) {k : ℕ} → Value n ≡ Value k → n ≡ k
-      number n q = cc
+  pub never : {A : Type 0} (number : ℕ) → decision ≡ Refused number → A
+  never = never-refused call (omega arith) mother-whole (omega arith) steps
 
-  pub trellis-cleared : trellis′ ≡ written (replicate 184 0) trellis
-  trellis-cleared = made (decodeRefusal speech 184 (length mother) (length trellis) (length blank)) (cleared 184 trellis) trellis trellis′ decode-free (call .clears)
-
-  -- the walk back always ends in state 0, so the decoder does not refuse
-  pub never-refused : {A : Type 0} (number : ℕ) → answer ≡ Refused number → A
-  never-refused number e = absurd (other number (sym e ∙ answer-is))
-    where
-      other : (n : ℕ) {k : ℕ} → Refused n ≡ Value k → ⊥
-      other n q = let z : _≡_ {A = ℕ} 0 1 = cc in omega arith
-
-pub verdict-is : (start : ℕ) (slot word : List ℕ) (n : ℕ) (answer : Received) → word ≡ wordOf start slot → n ≡ slotDisagreements start slot
-    → answer ≡ checked (sameBits (take 8 (drop 172 word)) (speechCheck (take 60 (drop 112 word)))) (record { disagreements = n })
-    → answer ≡ checked (isGood start slot) (countsOf start slot)
-unfolding isGood
-verdict-is start slot word n answer w c e =
-    e ∙ ap₂ (λ (l : List ℕ) (k : ℕ). checked (sameBits (take 8 (drop 172 l)) (speechCheck (take 60 (drop 112 l)))) (record { disagreements = k })) w c
-
-pub codec-is : (start : ℕ) (slot block word codec left : List ℕ) → block ≡ blockOf start slot → word ≡ wordOf start slot → 274 ≤ length codec
-    → left ≡ codecOf (map readBit (take 102 block) ++ take 172 word) codec → left ≡ written (codecBits start slot) codec
-unfolding codecBits
-codec-is start slot block word codec left b w h e =
-    e ∙ codec-over (map readBit (take 102 block) ++ take 172 word) codec h
-    ∙ ap₂ (λ (x y : List ℕ). written (codecOf (map readBit (take 102 x) ++ take 172 y) (replicate 274 0)) codec) b w
+-- what a settled slot is to its entry
+pub received-slot : (count start : ℕ) (air slot codec trellis : List ℕ) (answer : Received) (codec′ trellis′ : List ℕ)
+    → receiveRefusal count (length air) (length codec) (length trellis) ≡ accepted → slot ≡ slotOf count air
+    → Settles (blockOf start slot) codec trellis answer codec′ trellis′ → Receives count start air codec trellis answer codec′ trellis′
+unfolding wordFrom countsOf codecBits
+received-slot count start air slot codec trellis answer codec′ trellis′ none is s =
+    let t = subst (λ (l : List ℕ). Settles (blockOf start l) codec trellis answer codec′ trellis′) is s in
+    receives-done (good (wordFrom count start air)) (countsOf count start air) none (t .answered, t .target, t .clears)
 
 -- ---- the second half, behind the erasures that are supplied
-pub half-made : (air q : List ℕ) → 216 ≤ length air → q ≡ take 216 (take 216 air) → putMid 216 216 (replicate 432 ERASED) q ≡ supplied air
+pub half-made : (air q : List ℕ) → 216 ≤ length air → q ≡ take 216 (take 216 air) → putMid 216 216 (replicate 432 ERASED) q ≡ slotOf 216 air
 half-made air q h e =
     ap (λ (l : List ℕ). replicate 216 ERASED ++ l) (append-nil q ∙ e ∙ take-all 216 (take 216 air) (omega (arith, length-take-le 216 air h)))

@@ -1,8 +1,8 @@
+pub mod Refusals
 pub mod Mother
 pub mod Air
-pub mod Refusals
-pub mod Demand
-pub mod RoundTrip
+pub mod Words
 pub mod Parts
+pub mod Demand
 pub mod Chains
-pub mod Answers
+pub mod RoundTrip

@@ -1,36 +1,24 @@
 -- What the stages of sending and receiving make, put together from their parts.
 -- Assumes nothing.
 use mathlib.Core.Path.{_≡_, refl, sym, ap, ap₂, _∙_}
-use mathlib.Core.List.{List, [], _∷_, _++_, map, append-assoc, append-nil}
+use mathlib.Core.List.{List, [], _∷_, _++_, map, foldr, zipWith, append-assoc, append-nil}
 use Prim.Native.Nat.{ℕ, zero, suc, _+_, _≤_, _<_}
 use native.Mathlib.Omega.{arith}
 use lib.Dec.{eqb}
 use borrow.Author.Tests.{le-ltb, eq-eqb, ne-eqb}
 use borrow.Rule.Slice.PartMut.{putMid}
-use lib.ListN.{length, take, drop, getD, replicate, length-append, length-drop, length-replicate, length-map, List·getD-map}
+use lib.ListN.{length, take, drop, getD, replicate, length-append, length-drop, length-map, List·getD-map}
 use lib.Seq.{length-take-le, getD-take, take-all, take-at, drop-at}
-use mathlib.Core.Bool.{Bool, true, false, not}
-use Rattle.base.specs.Refusal.{unless, when, accepted, BIT}
-use Rattle.base.specs.Bits.{Bits, both, bitsOnly}
-use Rattle.base.proofs.BitLaws.{bits-only-yes}
-use Rattle.base.proofs.Moves.{gather-length}
-use Rattle.air.proofs.Moved.{scatter-bits}
-use Rattle.interleaver.specs.Interleaving.{matrixInterleaved, matrixDeinterleaved, matrixRefusal}
-use Rattle.scrambler.specs.Scrambling.{scrambled, descrambled, sendRefusal}
-use Rattle.scrambler.proofs.Blocks.{descrambled-length}
-use Rattle.errorcontrol_tp.specs.Speech.{onAir, blockOf, readBit, sameBits}
-use Rattle.trellis.proofs.Words.{zeros-bits}
-use Rattle.errorcontrol_tp.proofs.Air.{airPlace}
+use mathlib.Core.Bool.{Bool, true, false}
+use Rattle.base.specs.Refusal.{unless}
+use Rattle.base.specs.Bits.{both}
+use Rattle.stages.proofs.Calls.{made, whole}
+use Rattle.errorcontrol_tp.specs.Receiving.{readBit}
 use Rattle.base.specs.Places.{written, tabulate}
-use Rattle.base.proofs.Lists.{written-whole, tabulate-of}
+use Rattle.base.proofs.Lists.{tabulate-of}
 use Rattle.speech_crc.specs.Check.{speechCheck, checkRefusal}
 use Rattle.speech_crc.proofs.Shape.{check-length}
 use Rattle.tch_reorder.specs.Order.{codecOf, reorderRefusal}
-
--- a target that is as long as what is written, where nothing is refused
-pub whole : (number : ℕ) (new old left : List ℕ) → number ≡ 0 → length new ≡ length old → left ≡ unless number (written new old) old → left ≡ new
-whole zero new old left z e p = p ∙ written-whole new old e
-whole (suc n) new old left z e p = absurd (omega arith)
 
 pub reorder-free : (src dst : ℕ) → 274 ≤ src → 274 ≤ dst → reorderRefusal src dst ≡ 0
 reorder-free src dst h k = rw (le-ltb src 274 h, le-ltb dst 274 k)
@@ -72,56 +60,12 @@ module _ (channel p q : List ℕ) (long : length channel ≡ 274) (front : p ≡
           whole (checkRefusal (length bits) (length spare)) (speechCheck bits) spare q
           (check-free (length bits) (length spare) (omega (arith, bits-long)) (omega (arith, spare-long))) (check-length bits ∙ sym spare-long) e
 
--- ---- through the matrix and the scrambler
-pub matrix-free : (src dst : ℕ) → src ≡ 432 → dst ≡ 432 → matrixRefusal 24 18 src dst ≡ 0
-matrix-free src dst h k = rw (le-ltb src 432 (omega arith), le-ltb dst 432 (omega arith))
-
--- what success leaves
-pub made : {A : Type 0} (number : ℕ) (new old left : A) → number ≡ 0 → left ≡ unless number new old → left ≡ new
-made zero new old left z p = p
-made (suc n) new old left z p = absurd (omega arith)
-
-pub air-made : (start : ℕ) (block blank a b : List ℕ) → length block ≡ 432 → Bits block → blank ≡ replicate 432 0
-    → a ≡ unless (matrixRefusal 24 18 (length block) (length blank)) (matrixInterleaved 24 18 block blank) blank
-    → b ≡ unless (sendRefusal a) (scrambled start a) a → b ≡ onAir start block
-unfolding onAir
-air-made start block blank a b e plain zeros p q =
-    made (sendRefusal a) (scrambled start a) a b free q ∙ ap (scrambled start) moved
-  where
-    moved : a ≡ matrixInterleaved 24 18 block (replicate 432 0)
-    moved =
-        made (matrixRefusal 24 18 (length block) (length blank)) (matrixInterleaved 24 18 block blank) blank a
-        (matrix-free (length block) (length blank) e (ap length zeros ∙ length-replicate {A = ℕ} 432 0)) p
-        ∙ ap (matrixInterleaved 24 18 block) zeros
-
-    free : sendRefusal a ≡ 0
-    free =
-        ap (λ (t : Bool). when (not t) BIT accepted)
-        (ap (bitsOnly (length a)) moved
-        ∙ bits-only-yes (length a) (matrixInterleaved 24 18 block (replicate 432 0)) (scatter-bits airPlace 432 block (replicate 432 0) plain (zeros-bits 432)))
-
-pub block-made : (start : ℕ) (air s t blank b : List ℕ) → length air ≡ 432 → s ≡ take 432 air → t ≡ descrambled start s → length blank ≡ 432
-    → b ≡ unless (matrixRefusal 24 18 (length t) (length blank)) (written (matrixDeinterleaved 24 18 t) blank) blank → b ≡ blockOf start air
-unfolding blockOf
-block-made start air s t blank b e p q l r =
-    whole (matrixRefusal 24 18 (length t) (length blank)) (matrixDeinterleaved 24 18 t) blank b
-    (matrix-free (length t) (length blank) (ap length q ∙ descrambled-length start s ∙ ap length same ∙ e) l)
-    (gather-length airPlace 432 t ∙ sym l) r
-    ∙ ap (λ (x : List ℕ). matrixDeinterleaved 24 18 x) (q ∙ ap (descrambled start) same)
-  where
-    same : s ≡ air
-    same = p ∙ take-all 432 air (omega arith)
-
 -- ---- the channel frame
 pub read-one : (r : ℕ) → r ≡ 1 → 1 ≡ readBit r
-read-one zero e = absurd (omega arith)
-read-one (suc zero) e = refl
-read-one (suc (suc r)) e = absurd (omega arith)
+read-one r e = rw (eq-eqb r 1 e)
 
 pub read-other : (r : ℕ) → (r ≡ 1 → ⊥) → 0 ≡ readBit r
-read-other zero h = refl
-read-other (suc zero) h = absurd (h refl)
-read-other (suc (suc r)) h = refl
+read-other r h = rw (ne-eqb r 1 h)
 
 pub read-map : (n : ℕ) (l : List ℕ) → n ≤ length l → tabulate (λ j. readBit (getD l j 0)) n ≡ map readBit (take n l)
 read-map n l h =
@@ -132,19 +76,24 @@ pub read-long : (block : List ℕ) → 102 ≤ length block → length (map read
 read-long block h = length-map (take 102 block) readBit ∙ length-take-le 102 block h
 
 -- ---- runs that are the same
-pub same-all : (a b : List ℕ) → length a ≡ length b → ((k : ℕ) → k < length a → getD a k 0 ≡ getD b k 0) → sameBits a b ≡ true
+abbrev same : List ℕ → List ℕ → Bool
+same a b = foldr both true (zipWith eqb a b)
+
+pub same-all : (a b : List ℕ) → length a ≡ length b → ((k : ℕ) → k < length a → getD a k 0 ≡ getD b k 0) → same a b ≡ true
+unfolding zipWith
 same-all [] [] e h = refl
 same-all [] (y ∷ b) e h = absurd (omega arith)
 same-all (x ∷ a) [] e h = absurd (omega arith)
 same-all (x ∷ a) (y ∷ b) e h = ap₂ both (eq-eqb x y (h 0 (omega arith))) (same-all a b (omega arith) (λ k l. h (suc k) (omega arith)))
 
-pub same-none : (a b : List ℕ) (i : ℕ) → i < length a → length a ≡ length b → (getD a i 0 ≡ getD b i 0 → ⊥) → sameBits a b ≡ false
+pub same-none : (a b : List ℕ) (i : ℕ) → i < length a → length a ≡ length b → (getD a i 0 ≡ getD b i 0 → ⊥) → same a b ≡ false
+unfolding zipWith
 same-none [] b i l e h = absurd (omega arith)
 same-none (x ∷ a) [] i l e h = absurd (omega arith)
-same-none (x ∷ a) (y ∷ b) zero l e h = ap (λ (t : Bool). both t (sameBits a b)) (ne-eqb x y h)
+same-none (x ∷ a) (y ∷ b) zero l e h = ap (λ (t : Bool). both t (same a b)) (ne-eqb x y h)
 same-none (x ∷ a) (y ∷ b) (suc i) l e h = last (eqb x y) (same-none a b i (omega arith) (omega arith) h)
   where
-    last : (t : Bool) → sameBits a b ≡ false → both t (sameBits a b) ≡ false
+    last : (t : Bool) → same a b ≡ false → both t (same a b) ≡ false
     last true q = q
     last false q = refl
 

@@ -1,16 +1,18 @@
--- What no refusal says of the lengths, and how long the slot is that a second half is read as.
+-- What no refusal says of the lengths, and how long the slot is that symbols are read as the last of.
 -- Assumes nothing.
-use mathlib.Core.Path.{_≡_, ap, _∙_}
+use mathlib.Core.Path.{_≡_}
 use mathlib.Core.List.{List}
 use mathlib.Core.Bool.{true, not}
-use Prim.Native.Nat.{ℕ, _+_, _≤_}
+use Prim.Native.Nat.{ℕ, _-_, _≤_}
+use native.Mathlib.Omega.{arith}
 use lib.Dec.{ltb}
 use borrow.Author.Tests.{ltb-false, not-false}
-use lib.ListN.{length, take, replicate, length-append}
+use lib.ListN.{length, take, replicate, length-append, length-replicate}
 use lib.Seq.{length-take-le}
 use Rattle.base.specs.Bits.{bitsOnly, ERASED}
 use Rattle.base.proofs.Refusals.{passed}
-use Rattle.errorcontrol_tp.specs.Speech.{sendRefusal, receiveRefusal, supplied}
+use Rattle.errorcontrol_tp.specs.Sending.{sendRefusal}
+use Rattle.errorcontrol_tp.specs.Receiving.{receiveRefusal, slotOf}
 
 pub record SendAccepted (count : ℕ) (codec : List ℕ) (air : ℕ) : Type 0 where
   pub long : 274 ≤ length codec
@@ -44,5 +46,6 @@ receive-accepted count air codec trellis e =
       steps = ltb-false trellis 184 (third .0);
     }
 
-pub half-long : (air : List ℕ) → 216 ≤ length air → length (supplied air) ≡ 432
-half-long air h = length-append (replicate 216 ERASED) (take 216 air) ∙ ap (λ (n : ℕ). 216 + n) (length-take-le 216 air h)
+pub slot-whole : (count : ℕ) (air : List ℕ) → count ≤ 432 → count ≤ length air → length (slotOf count air) ≡ 432
+slot-whole count air most h =
+    omega (arith, length-append (replicate (432 - count) ERASED) (take count air), length-replicate (432 - count) ERASED, length-take-le count air h)

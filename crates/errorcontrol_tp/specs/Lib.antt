@@ -1,2 +1,4 @@
-pub mod Speech
+pub mod Sending
+pub mod Receiving
+pub mod Settling
 pub mod Hearing

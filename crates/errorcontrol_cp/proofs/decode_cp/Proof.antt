@@ -1,7 +1,8 @@
 -- A refusal is its number and leaves target and trellis; else the chain meets the contract.
 use mathlib.Core.Path.{sym, _∙_}
 use borrow.Author.Needs.{needs}
-use Rattle.errorcontrol_cp.proofs.Chains.{receives-refused}
+use Rattle.stages.proofs.Entries.{receives-refused}
+use Rattle.errorcontrol_cp.specs.Receiving.{wordFrom, good, countsOf}
 use Rattle.errorcontrol_cp.proofs.decode_cp.Statement.{statement}
 use Rattle.errorcontrol_cp.proofs.decode_cp.Tie as tie
 
@@ -12,7 +13,7 @@ returns : tie.Need-returns
 returns c =
     let a = c .before .before .before .before .before .args in
     let r = c .before .receive-refusal in
-    receives-refused (a .kind) (a .start) (a .air .now) (a .word .now) (a .trellis .now) (r .result) (r .ensures) (c .if1 .taken)
+    receives-refused (good (a .kind) (wordFrom (a .kind) (a .start) (a .air .now))) (countsOf (a .kind) (a .start) (a .air .now)) (r .result) (r .ensures) (c .if1 .taken)
 
 receive-requires : tie.Need-receive-requires
 receive-requires c κs = sym (c .before .before .before .receive-refusal .ensures) ∙ c .before .before .if1 .left

@@ -7,7 +7,8 @@ use borrow.Author.Needs.{needs}
 use lib.ListN.{replicate}
 use lib.Seq.{length-take-le}
 use Rattle.errorcontrol_cp.proofs.Parts.{take-replicate}
-use Rattle.errorcontrol_cp.proofs.Calls.{front-room, front-length, word-size, mother-made}
+use Rattle.stages.proofs.Calls.{front-room, front-length}
+use Rattle.errorcontrol_cp.proofs.Chains.{word-size, mother-made}
 use Rattle.errorcontrol_cp.proofs.encode_word.Statement.{statement}
 use Rattle.errorcontrol_cp.proofs.encode_word.Tie as tie
 
@@ -62,7 +63,7 @@ returns c =
     let fresh = c .before .before .before .before .before .new in
     let e = c .before .before .encode in
     mother-made (s .args .count) (s .args .«data» .now) (w .last .1 .1 .0) (s .pre .0) (w .ensures) work (fresh .result .delayed) (s .args .mother .now) (e .last .1 .1 .0)
-    (s .pre .1) (s .pre .2) (fresh .ensures) (s .pre .3) (e .ensures .target)
+    (s .pre .2) (s .pre .1) (fresh .ensures) (s .pre .3) (e .ensures .target)
 
 pub encode-word-spec : {M : Type 1} → statement M
 encode-word-spec =

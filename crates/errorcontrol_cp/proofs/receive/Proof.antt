@@ -9,7 +9,7 @@ use lib.Seq.{length-take-le}
 use Rattle.base.specs.Bits.{ERASED}
 use Rattle.errorcontrol_cp.proofs.Refusals.{receive-accepts}
 use Rattle.errorcontrol_cp.proofs.Parts.{take-replicate}
-use Rattle.errorcontrol_cp.proofs.Calls.{front-room, front-length}
+use Rattle.stages.proofs.Calls.{front-room, front-length}
 use Rattle.errorcontrol_cp.proofs.Chains.{Receivable, receivable, made-size, receives-made}
 use Rattle.errorcontrol_cp.proofs.receive.Statement.{statement}
 use Rattle.errorcontrol_cp.proofs.receive.Tie as tie
@@ -38,14 +38,15 @@ mul-symbols c = omega (arith, can c .fit)
 array-borrow-prefix-mother : tie.Need-array-borrow-prefix-mother
 array-borrow-prefix-mother c = omega (arith, can c .fit)
 
-slice-aggregate-recover-mother : tie.Need-slice-aggregate-recover-mother
+slice-aggregate-take-off-air : tie.Need-slice-aggregate-take-off-air
 unfolding work
-slice-aggregate-recover-mother c = sym (length-take-le (4 * c .before .get-params .result .word) work (omega (arith, can (c .before) .fit)))
+slice-aggregate-take-off-air c = sym (length-take-le (4 * c .before .get-params .result .word) work (omega (arith, can (c .before) .fit)))
 
-recover-mother-requires : tie.Need-recover-mother-requires
+take-off-air-requires : tie.Need-take-off-air-requires
 unfolding work
-recover-mother-requires c κs =
+take-off-air-requires c κs =
     let f = can (c .before) in (
+      omega arith,
       f .fit .few,
       f .fit .number,
       f .fit .alone,
@@ -53,21 +54,21 @@ recover-mother-requires c κs =
       omega (arith, f .fit .reach, length-take-le (4 * c .before .get-params .result .word) work (omega (arith, f .fit))),
     )
 
-size : (c : tie.After-recover-mother) → length (c .recover-mother .last .1 .1 .1 .1 .0) ≡ 4 * c .before .before .get-params .result .word
+size : (c : tie.After-take-off-air) → length (c .take-off-air .last .1 .1 .1 .1 .1 .0) ≡ 4 * c .before .before .get-params .result .word
 unfolding work
 size c =
     let s = c .before .before .before .before .before .before in
     let g = c .before .before .get-params in
     made-size (s .args .kind) (s .args .start) (s .args .air .now) (s .args .word .now) (s .args .trellis .now) (g .result .«data») (g .result .word) (g .result .air) (g .result .a)
-    (s .pre) (g .ensures) work (c .recover-mother .last .1 .1 .1 .1 .0) (take-replicate (4 * g .result .word) 1152 ERASED (omega (arith, can (c .before .before) .fit))) (c .recover-mother .ensures)
+    (s .pre) (g .ensures) work (c .take-off-air .last .1 .1 .1 .1 .1 .0) (take-replicate (4 * g .result .word) 1152 ERASED (omega (arith, can (c .before .before) .fit))) (c .take-off-air .ensures)
 
 array-share-prefix-mother : tie.Need-array-share-prefix-mother
 unfolding work
-array-share-prefix-mother c = front-room (4 * c .before .before .before .get-params .result .word) (c .before .recover-mother .last .1 .1 .1 .1 .0) work (size (c .before))
+array-share-prefix-mother c = front-room (4 * c .before .before .before .get-params .result .word) (c .before .take-off-air .last .1 .1 .1 .1 .1 .0) work (size (c .before))
 
 slice-aggregate-settle : tie.Need-slice-aggregate-settle
 unfolding work
-slice-aggregate-settle c = sym (front-length (4 * c .before .before .before .before .get-params .result .word) (c .before .before .recover-mother .last .1 .1 .1 .1 .0) work (size (c .before .before)))
+slice-aggregate-settle c = sym (front-length (4 * c .before .before .before .before .get-params .result .word) (c .before .before .take-off-air .last .1 .1 .1 .1 .1 .0) work (size (c .before .before)))
 
 settle-requires : tie.Need-settle-requires
 unfolding work
@@ -75,7 +76,7 @@ settle-requires c κs =
     let f = can (c .before .before .before .before .before .before) in (
       f .fit .most,
       sym (f .fit .word),
-      front-length (4 * c .before .before .before .before .before .before .get-params .result .word) (c .before .before .before .before .recover-mother .last .1 .1 .1 .1 .0) work (size (c .before .before .before .before)),
+      front-length (4 * c .before .before .before .before .before .before .get-params .result .word) (c .before .before .before .before .take-off-air .last .1 .1 .1 .1 .1 .0) work (size (c .before .before .before .before)),
       f .room,
       f .steps,
     )
@@ -91,10 +92,10 @@ unfolding work
 returns c =
     let s = c .before .before .before .before .before .before .before .before .before .before .before .before .before .before .before in
     let g = c .before .before .before .before .before .before .before .before .before .before .before .get-params in
-    let m = c .before .before .before .before .before .before .before .before .before .recover-mother in
+    let m = c .before .before .before .before .before .before .before .before .before .take-off-air in
     let t = c .before .before .before .before .settle in
     receives-made (s .args .kind) (s .args .start) (s .args .air .now) (s .args .word .now) (s .args .trellis .now) (g .result .«data») (g .result .word) (g .result .air) (g .result .a)
-    (s .pre) (g .ensures) work (m .last .1 .1 .1 .1 .0) (take-replicate (4 * g .result .word) 1152 ERASED (omega (arith, can (c .before .before .before .before .before .before .before .before .before .before .before) .fit))) (m .ensures)
+    (s .pre) (g .ensures) work (m .last .1 .1 .1 .1 .1 .0) (take-replicate (4 * g .result .word) 1152 ERASED (omega (arith, can (c .before .before .before .before .before .before .before .before .before .before .before) .fit))) (m .ensures)
     (t .result) (t .last .1 .1 .1 .0) (t .last .1 .1 .1 .1 .0) (t .ensures)
 
 pub receive-spec : {M : Type 1} → statement M
@@ -104,8 +105,8 @@ receive-spec =
     get-params-requires
     mul-symbols
     array-borrow-prefix-mother
-    slice-aggregate-recover-mother
-    recover-mother-requires
+    slice-aggregate-take-off-air
+    take-off-air-requires
     array-share-prefix-mother
     slice-aggregate-settle
     settle-requires

@@ -8,7 +8,7 @@ use lib.ListN.{length, replicate}
 use lib.Seq.{length-take-le}
 use Rattle.base.specs.Bits.{Bits}
 use Rattle.errorcontrol_cp.proofs.Refusals.{send-accepts}
-use Rattle.errorcontrol_cp.proofs.Calls.{front, front-room, front-length}
+use Rattle.stages.proofs.Calls.{front, front-room, front-length}
 use Rattle.errorcontrol_cp.proofs.Chains.{Sendable, sendable, mother-size, mother-bits, sent-made}
 use Rattle.errorcontrol_cp.proofs.send.Statement.{statement}
 use Rattle.errorcontrol_cp.proofs.send.Tie as tie
@@ -81,6 +81,7 @@ put-on-air-requires c κs =
     let e = c .before .before .before .encode-word in
     let f = can (c .before .before .before .before .before .before) in
     let n = 4 * g .result .word in (
+      omega arith,
       f .fit .few,
       f .fit .number,
       f .fit .alone,
@@ -102,7 +103,7 @@ returns c =
     let e = c .before .before .before .before .before .before .encode-word in
     let o = c .before .before .put-on-air in
     sent-made (s .args .kind) (s .args .start) (s .args .«data» .now) (s .args .air .now) (g .result .«data») (g .result .word) (g .result .air) (g .result .a)
-    (g .ensures) (can (c .before .before .before .before .before .before .before .before .before)) (e .last .1 .1 .0) (e .ensures) work (o .last .1 .1 .1 .1 .0) (o .ensures)
+    (g .ensures) (can (c .before .before .before .before .before .before .before .before .before)) (e .last .1 .1 .0) (e .ensures) work (o .last .1 .1 .1 .1 .1 .0) (o .ensures)
 
 pub send-spec : {M : Type 1} → statement M
 send-spec =

@@ -1,6 +1,8 @@
 -- The decoder's word is judged by its check; its refusal does not happen.
 use borrow.Author.Needs.{needs}
-use Rattle.errorcontrol_cp.proofs.Chains.{settled, never-refused}
+use native.Mathlib.Omega.{arith}
+use Rattle.stages.proofs.Decoding.{never-refused}
+use Rattle.errorcontrol_cp.proofs.Chains.{settled}
 use Rattle.errorcontrol_cp.proofs.settle.Statement.{statement}
 use Rattle.errorcontrol_cp.proofs.settle.Tie as tie
 
@@ -10,8 +12,8 @@ dec-sb1-requires c κs = search needs
 enum-known-answer : tie.Need-enum-known-answer
 enum-known-answer c = search needs
 
-verdict-requires : tie.Need-verdict-requires
-verdict-requires c κs = search needs
+judge-requires : tie.Need-judge-requires
+judge-requires c κs = search needs
 
 enum-known-answer-2 : tie.Need-enum-known-answer-2
 enum-known-answer-2 c = search needs
@@ -28,7 +30,7 @@ returns c =
     let d = c .before .before .before .before .before .before .before .before .before .dec-sb1 in
     let v = c .before .before .before .answer .given in
     settled (s .args .count) (s .args .n) (s .args .mother .now) (s .args .word .now) (d .last .1 .0) (s .args .trellis .now) (d .last .1 .1 .1 .0) (d .result)
-    (s .pre .0) (s .pre .1) (s .pre .2) (s .pre .3) (s .pre .4) (d .ensures) (v .0 .0) (c .verdict .result) (v .1) (c .verdict .ensures)
+    (s .pre .0) (s .pre .1) (s .pre .2) (s .pre .3) (s .pre .4) (d .ensures) (v .0 .0) (c .judge .result) (v .1) (c .judge .ensures)
 
 same-length-3 : tie.Need-same-length-3
 same-length-3 c = search needs
@@ -41,8 +43,7 @@ returns-2 c =
     let s = c .before .before .before .before .before .before .before .before .before .before .before .before .before in
     let d = c .before .before .before .before .before .before .before .dec-sb1 in
     let v = c .before .answer2 .given in
-    absurd (never-refused (s .args .count) (s .args .n) (s .args .mother .now) (s .args .word .now) (d .last .1 .0) (s .args .trellis .now) (d .last .1 .1 .1 .0) (d .result)
-    (s .pre .0) (s .pre .1) (s .pre .2) (s .pre .3) (s .pre .4) (d .ensures) (v .0 .0) (v .1))
+    never-refused (d .ensures) (omega (arith, s .pre)) (s .pre .2) (s .pre .3) (s .pre .4) (v .0 .0) (v .1)
 
 pub settle-spec : {M : Type 1} → statement M
 settle-spec =
@@ -50,7 +51,7 @@ settle-spec =
     (tie.spec
     dec-sb1-requires
     enum-known-answer
-    verdict-requires
+    judge-requires
     enum-known-answer-2
     same-length
     same-length-2

@@ -1,6 +1,6 @@
 -- Three parts, each as long as its room.
 use mathlib.Core.List.{[]}
-use Rattle.errorcontrol_tp.proofs.Chains.{front-room, then-room, block-made}
+use Rattle.errorcontrol_tp.proofs.Chains.{front-room, gap-long, gap-needs, then-room, rest-long, rest-needs, block-made}
 use native.Mathlib.Omega.{arith}
 use borrow.Author.Needs.{needs}
 use Rattle.errorcontrol_tp.proofs.block_bits.Statement.{statement}
@@ -35,12 +35,12 @@ copy-requires : tie.Need-copy-requires
 copy-requires c κs = search needs
 
 -- src/lib.rt:101:36
-slice-aggregate-get-punctured-rate : tie.Need-slice-aggregate-get-punctured-rate
-slice-aggregate-get-punctured-rate c = search needs
+slice-aggregate-puncture : tie.Need-slice-aggregate-puncture
+slice-aggregate-puncture c = search needs
 
 -- src/lib.rt:101:49
-sub-get-punctured-rate : tie.Need-sub-get-punctured-rate
-sub-get-punctured-rate c = search needs
+sub-puncture : tie.Need-sub-puncture
+sub-puncture c = search needs
 
 -- src/lib.rt:101:49
 part-block-start-2 : tie.Need-part-block-start-2
@@ -52,16 +52,22 @@ part-block-end-2 c =
     omega (arith, front-room (c .before .before .before .before .before .before .args .t1) (c .before .before .before .before .before .before .args .t2) (c .before .before .before .before .before .before .args .t3) (c .before .before .copy .last .1 .0) [] [] (search needs) (search needs) (search needs) (c .before .before .copy .ensures))
 
 -- src/lib.rt:101:5
-get-punctured-rate-requires : tie.Need-get-punctured-rate-requires
-get-punctured-rate-requires c κs = search needs
+puncture-requires : tie.Need-puncture-requires
+puncture-requires c κs =
+    let s = c .before .before .before .before .before .before .before .args in
+    let copy = c .before .before .before .copy in (
+      omega arith,
+      omega (arith, gap-long (s .t1) (s .t2) (s .t3) (copy .last .1 .0) [] [] (search needs) (search needs) (search needs) (copy .ensures)),
+      gap-needs (s .t1) (s .t2) (s .t3) (copy .last .1 .0) [] [] (search needs) (search needs) (search needs) (copy .ensures),
+    )
 
 -- src/lib.rt:102:36
-slice-aggregate-get-punctured-rate-2 : tie.Need-slice-aggregate-get-punctured-rate-2
-slice-aggregate-get-punctured-rate-2 c = search needs
+slice-aggregate-puncture-2 : tie.Need-slice-aggregate-puncture-2
+slice-aggregate-puncture-2 c = search needs
 
 -- src/lib.rt:102:50
-sub-get-punctured-rate-2 : tie.Need-sub-get-punctured-rate-2
-sub-get-punctured-rate-2 c = search needs
+sub-puncture-2 : tie.Need-sub-puncture-2
+sub-puncture-2 c = search needs
 
 -- src/lib.rt:102:50
 part-block-start-3 : tie.Need-part-block-start-3
@@ -70,18 +76,25 @@ part-block-start-3 c = search needs
 -- src/lib.rt:102:50
 part-block-end-3 : tie.Need-part-block-end-3
 part-block-end-3 c =
-    omega (arith, then-room (c .before .before .before .before .before .before .before .before .before .before .args .t1) (c .before .before .before .before .before .before .before .before .before .before .args .t2) (c .before .before .before .before .before .before .before .before .before .before .args .t3) (c .before .before .before .before .before .before .copy .last .1 .0) (c .before .before .get-punctured-rate .last .1 .1 .1 .0) [] (search needs) (search needs) (search needs) (c .before .before .before .before .before .before .copy .ensures) (c .before .before .get-punctured-rate .ensures .1))
+    omega (arith, then-room (c .before .before .before .before .before .before .before .before .before .before .args .t1) (c .before .before .before .before .before .before .before .before .before .before .args .t2) (c .before .before .before .before .before .before .before .before .before .before .args .t3) (c .before .before .before .before .before .before .copy .last .1 .0) (c .before .before .puncture .last .1 .1 .0) [] (search needs) (search needs) (search needs) (c .before .before .before .before .before .before .copy .ensures) (c .before .before .puncture .ensures))
 
 -- src/lib.rt:102:5
-get-punctured-rate-requires-2 : tie.Need-get-punctured-rate-requires-2
-get-punctured-rate-requires-2 c κs = search needs
+puncture-requires-2 : tie.Need-puncture-requires-2
+puncture-requires-2 c κs =
+    let s = c .before .before .before .before .before .before .before .before .before .before .before .args in
+    let copy = c .before .before .before .before .before .before .before .copy in
+    let p = c .before .before .before .puncture in (
+      omega arith,
+      omega (arith, rest-long (s .t1) (s .t2) (s .t3) (copy .last .1 .0) (p .last .1 .1 .0) [] (search needs) (search needs) (search needs) (copy .ensures) (p .ensures)),
+      rest-needs (s .t1) (s .t2) (s .t3) (copy .last .1 .0) (p .last .1 .1 .0) [] (search needs) (search needs) (search needs) (copy .ensures) (p .ensures),
+    )
 
 -- src/lib.rt:96:1
 returns : tie.Need-returns
 returns c =
     let a = c .before .before .before .before .before .before .before .before .before .before .before .before .before .args in
-    block-made (a .t1) (a .t2) (a .t3) (c .before .before .before .before .before .before .before .before .before .copy .last .1 .0) (c .before .before .before .before .before .get-punctured-rate .last .1 .1 .1 .0) (c .before .get-punctured-rate2 .last .1 .1 .1 .0)
-    (search needs) (search needs) (search needs) (c .before .before .before .before .before .before .before .before .before .copy .ensures) (c .before .before .before .before .before .get-punctured-rate .ensures .1) (c .before .get-punctured-rate2 .ensures .1)
+    block-made (a .t1) (a .t2) (a .t3) (c .before .before .before .before .before .before .before .before .before .copy .last .1 .0) (c .before .before .before .before .before .puncture .last .1 .1 .0) (c .before .puncture2 .last .1 .1 .0)
+    (search needs) (search needs) (search needs) (c .before .before .before .before .before .before .before .before .before .copy .ensures) (c .before .before .before .before .before .puncture .ensures) (c .before .puncture2 .ensures)
 
 pub block-bits-spec : {M : Type 1} → statement M
 block-bits-spec =
@@ -94,14 +107,14 @@ block-bits-spec =
     part-block-start
     part-block-end
     copy-requires
-    slice-aggregate-get-punctured-rate
-    sub-get-punctured-rate
+    slice-aggregate-puncture
+    sub-puncture
     part-block-start-2
     part-block-end-2
-    get-punctured-rate-requires
-    slice-aggregate-get-punctured-rate-2
-    sub-get-punctured-rate-2
+    puncture-requires
+    slice-aggregate-puncture-2
+    sub-puncture-2
     part-block-start-3
     part-block-end-3
-    get-punctured-rate-requires-2
+    puncture-requires-2
     returns)

@@ -2,7 +2,8 @@
 use lib.ListN.{length, replicate}
 use Rattle.base.proofs.Moves.{gather-length}
 use Rattle.tch_reorder.specs.Order.{channelOf, codecPlace}
-use Rattle.errorcontrol_tp.proofs.Parts.{whole, reorder-free}
+use Rattle.stages.proofs.Calls.{whole}
+use Rattle.errorcontrol_tp.proofs.Parts.{reorder-free}
 use native.Mathlib.Omega.{arith}
 use borrow.Author.Needs.{needs}
 use Rattle.errorcontrol_tp.proofs.channel_bits.Statement.{statement}

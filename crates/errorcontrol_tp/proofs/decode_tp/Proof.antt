@@ -1,8 +1,10 @@
 -- A refusal by its number; otherwise the front of the air is received.
-use mathlib.Core.Path.{sym, _∙_}
+use mathlib.Core.Path.{refl, sym, _∙_}
 use lib.ListN.{length, take}
 use lib.Seq.{length-take-le}
-use Rattle.errorcontrol_tp.proofs.Answers.{receive-refused, receive-done}
+use Rattle.stages.proofs.Entries.{receives-refused}
+use Rattle.errorcontrol_tp.specs.Receiving.{wordFrom, good, countsOf}
+use Rattle.errorcontrol_tp.proofs.Chains.{received-slot}
 use Rattle.errorcontrol_tp.proofs.Refusals.{receive-accepted}
 use borrow.Author.Needs.{needs}
 use Rattle.errorcontrol_tp.proofs.decode_tp.Statement.{statement}
@@ -16,7 +18,7 @@ receive-refusal-requires c κs = search needs
 returns : tie.Need-returns
 returns c =
     let a = c .before .before .before .before .before .args in
-    receive-refused 432 (a .start) (a .air .now) (take 432 (a .air .now)) (a .codec .now) (a .trellis .now) (c .before .receive-refusal .result) (c .before .receive-refusal .ensures) (c .if1 .taken)
+    receives-refused (good (wordFrom 432 (a .start) (a .air .now))) (countsOf 432 (a .start) (a .air .now)) (c .before .receive-refusal .result) (c .before .receive-refusal .ensures) (c .if1 .taken)
 
 -- src/lib.rt:270:20
 sub-receive : tie.Need-sub-receive
@@ -51,8 +53,9 @@ same-length-2 c = search needs
 returns-2 : tie.Need-returns-2
 returns-2 c =
     let a = c .before .before .before .before .before .before .before .before .before .before .before .before .before .args in
-    receive-done 432 (a .start) (a .air .now) (take 432 (a .air .now)) (a .codec .now) (a .trellis .now) (c .before .before .before .before .before .before .before .before .before .receive-refusal .result) (c .before .before .before .before .before .before .before .before .before .receive-refusal .ensures) (c .before .before .before .before .before .before .before .before .if1 .left)
-    (c .before .before .before .before .receive .result) (c .before .before .before .before .receive .last .1 .1 .0) (c .before .before .before .before .receive .last .1 .1 .1 .0) (c .before .before .before .before .receive .ensures)
+    let r = c .before .before .before .before .receive in
+    received-slot 432 (a .start) (a .air .now) (take 432 (a .air .now)) (a .codec .now) (a .trellis .now) (r .result) (r .last .1 .1 .0) (r .last .1 .1 .1 .0)
+    (sym (c .before .before .before .before .before .before .before .before .before .receive-refusal .ensures) ∙ c .before .before .before .before .before .before .before .before .if1 .left) refl (r .ensures)
 
 pub decode-tp-spec : {M : Type 1} → statement M
 decode-tp-spec =

@@ -1,14 +1,11 @@
 -- A refusal by its number; otherwise the second half is received behind erasures.
-use mathlib.Core.Path.{_≡_, sym, ap, _∙_, subst}
-use mathlib.Core.List.{List}
-use Prim.Native.Nat.{ℕ}
-use lib.ListN.{length, replicate}
-use Rattle.errorcontrol_tp.specs.Speech.{supplied, isGood, countsOf, codecBits}
-use Rattle.base.specs.Refusal.{checked}
-use Rattle.base.specs.Places.{written}
-use Rattle.errorcontrol_tp.proofs.Answers.{receive-refused, receive-done}
-use Rattle.errorcontrol_tp.proofs.Refusals.{receive-accepted, half-long}
-use Rattle.errorcontrol_tp.proofs.Chains.{half-made}
+use mathlib.Core.Path.{sym, ap, _∙_}
+use lib.ListN.{length}
+use Rattle.errorcontrol_tp.specs.Receiving.{wordFrom, good, countsOf}
+use Rattle.stages.proofs.Entries.{receives-refused}
+use Rattle.errorcontrol_tp.proofs.Refusals.{receive-accepted, slot-whole}
+use Rattle.errorcontrol_tp.proofs.Chains.{half-made, received-slot}
+use native.Mathlib.Omega.{arith}
 use borrow.Author.Needs.{needs}
 use Rattle.errorcontrol_tp.proofs.decode_tp_half.Statement.{statement}
 use Rattle.errorcontrol_tp.proofs.decode_tp_half.Tie as tie
@@ -21,7 +18,7 @@ receive-refusal-requires c κs = search needs
 returns : tie.Need-returns
 returns c =
     let a = c .before .before .before .before .before .args in
-    receive-refused 216 (a .start) (a .air .now) (supplied (a .air .now)) (a .codec .now) (a .trellis .now) (c .before .receive-refusal .result) (c .before .receive-refusal .ensures) (c .if1 .taken)
+    receives-refused (good (wordFrom 216 (a .start) (a .air .now))) (countsOf 216 (a .start) (a .air .now)) (c .before .receive-refusal .result) (c .before .receive-refusal .ensures) (c .if1 .taken)
 
 -- src/lib.rt:282:10
 sub-copy : tie.Need-sub-copy
@@ -58,14 +55,14 @@ slice-aggregate-receive : tie.Need-slice-aggregate-receive
 slice-aggregate-receive c =
     let a = c .before .before .before .before .before .before .before .before .before .before .args in
     let ok = receive-accepted 216 (length (a .air .now)) (length (a .codec .now)) (length (a .trellis .now)) (sym (c .before .before .before .before .before .before .receive-refusal .ensures) ∙ c .before .before .before .before .before .if1 .left) in
-    sym (ap length (half-made (a .air .now) (c .before .before .copy .last .1 .0) (ok .long) (c .before .before .copy .ensures)) ∙ half-long (a .air .now) (ok .long))
+    sym (ap length (half-made (a .air .now) (c .before .before .copy .last .1 .0) (ok .long) (c .before .before .copy .ensures)) ∙ slot-whole 216 (a .air .now) (omega arith) (ok .long))
 
 -- src/lib.rt:283:5
 receive-requires : tie.Need-receive-requires
 receive-requires c κs =
     let a = c .before .before .before .before .before .before .before .before .before .before .before .before .args in
     let ok = receive-accepted 216 (length (a .air .now)) (length (a .codec .now)) (length (a .trellis .now)) (sym (c .before .before .before .before .before .before .before .before .receive-refusal .ensures) ∙ c .before .before .before .before .before .before .before .if1 .left) in
-    (ap length (half-made (a .air .now) (c .before .before .before .before .copy .last .1 .0) (ok .long) (c .before .before .before .before .copy .ensures)) ∙ half-long (a .air .now) (ok .long), ok .room, ok .steps)
+    (ap length (half-made (a .air .now) (c .before .before .before .before .copy .last .1 .0) (ok .long) (c .before .before .before .before .copy .ensures)) ∙ slot-whole 216 (a .air .now) (omega arith) (ok .long), ok .room, ok .steps)
 
 -- src/lib.rt:274:1
 same-length : tie.Need-same-length
@@ -81,10 +78,9 @@ returns-2 c =
     let a = c .before .before .before .before .before .before .before .before .before .before .before .before .before .before .before .before .before .args in
     let ok = receive-accepted 216 (length (a .air .now)) (length (a .codec .now)) (length (a .trellis .now)) (sym (c .before .before .before .before .before .before .before .before .before .before .before .before .before .receive-refusal .ensures) ∙ c .before .before .before .before .before .before .before .before .before .before .before .before .if1 .left) in
     let r = c .before .before .before .before .receive in
-    receive-done 216 (a .start) (a .air .now) (supplied (a .air .now)) (a .codec .now) (a .trellis .now) (c .before .before .before .before .before .before .before .before .before .before .before .before .before .receive-refusal .result) (c .before .before .before .before .before .before .before .before .before .before .before .before .before .receive-refusal .ensures) (c .before .before .before .before .before .before .before .before .before .before .before .before .if1 .left)
-    (r .result) (r .last .1 .1 .0) (r .last .1 .1 .1 .0)
-    (subst (λ (l : List ℕ). (r .result ≡ checked (isGood (a .start) l) (countsOf (a .start) l)) × (r .last .1 .1 .0 ≡ written (codecBits (a .start) l) (a .codec .now)) × (r .last .1 .1 .1 .0 ≡ written (replicate 184 0) (a .trellis .now)))
-    (half-made (a .air .now) (c .before .before .before .before .before .before .before .before .before .copy .last .1 .0) (ok .long) (c .before .before .before .before .before .before .before .before .before .copy .ensures)) (r .ensures))
+    received-slot 216 (a .start) (a .air .now) _ (a .codec .now) (a .trellis .now) (r .result) (r .last .1 .1 .0) (r .last .1 .1 .1 .0)
+    (sym (c .before .before .before .before .before .before .before .before .before .before .before .before .before .receive-refusal .ensures) ∙ c .before .before .before .before .before .before .before .before .before .before .before .before .if1 .left)
+    (half-made (a .air .now) (c .before .before .before .before .before .before .before .before .before .copy .last .1 .0) (ok .long) (c .before .before .before .before .before .before .before .before .before .copy .ensures)) (r .ensures)
 
 pub decode-tp-half-spec : {M : Type 1} → statement M
 decode-tp-half-spec =

@@ -4,8 +4,7 @@ use mathlib.Core.List.{List}
 use Prim.Native.Nat.{ℕ}
 use lib.ListN.{length}
 use Rattle.base.specs.Places.{written}
-use Rattle.base.proofs.Refusals.{refused, done}
-use Rattle.errorcontrol_tp.specs.Speech.{slot}
+use Rattle.stages.proofs.Entries.{sends-refused, sends-done}
 use Rattle.errorcontrol_tp.proofs.Refusals.{send-accepted}
 use Rattle.errorcontrol_tp.proofs.Air.{slot-long}
 use Rattle.errorcontrol_tp.proofs.Chains.{copied-over}
@@ -19,14 +18,11 @@ send-refusal-requires c κs = search needs
 
 -- src/lib.rt:242:9
 returns : tie.Need-returns
-returns c =
-    let a = c .before .before .before .before .args in
-    let r = refused (c .before .send-refusal .result) _ (written (slot (a .start) (a .codec .now)) (a .air .now)) (a .air .now) (c .before .send-refusal .ensures) (c .if1 .taken) in
-    record { answered = r .0; target = r .1 }
+returns c = sends-refused (c .before .send-refusal .result) (c .before .send-refusal .ensures) (c .if1 .taken)
 
 -- src/lib.rt:244:19
-slot-bits-requires : tie.Need-slot-bits-requires
-slot-bits-requires c κs =
+send-requires : tie.Need-send-requires
+send-requires c κs =
     let a = c .before .before .before .before .args in
     let ok = send-accepted 432 (a .codec .now) (length (a .air .now)) (sym (c .before .send-refusal .ensures) ∙ c .if1 .left) in
     (ok .long, ok .plain)
@@ -63,11 +59,10 @@ returns-2 c =
     let a = c .before .before .before .before .before .before .before .before .before .before .args in
     let s = c .before .before .before .before .before .before .before .send-refusal in
     let none = c .before .before .before .before .before .before .if1 .left in
-    let symbols = c .before .before .before .before .before .slot-bits in
-    let r = done (s .result) _ (written (slot (a .start) (a .codec .now)) (a .air .now)) (a .air .now) _ (s .ensures) none
+    let symbols = c .before .before .before .before .before .send in
+    sends-done (s .result) (s .ensures) none
     (copied-over 432 _ (a .air .now) (c .before .before .copy .last .1 .0) (ap length (symbols .ensures) ∙ slot-long (a .start) (a .codec .now)) (send-accepted 432 (a .codec .now) (length (a .air .now)) (sym (s .ensures) ∙ none) .room) (c .before .before .copy .ensures)
-    ∙ ap (λ (l : List ℕ). written (l) (a .air .now)) (symbols .ensures)) in
-    record { answered = r .0; target = r .1 }
+    ∙ ap (λ (l : List ℕ). written l (a .air .now)) (symbols .ensures))
 
 pub encode-tp-spec : {M : Type 1} → statement M
 encode-tp-spec =
@@ -75,7 +70,7 @@ encode-tp-spec =
     (tie.spec
     send-refusal-requires
     returns
-    slot-bits-requires
+    send-requires
     slice-aggregate-copy
     sub-copy
     part-copy-start

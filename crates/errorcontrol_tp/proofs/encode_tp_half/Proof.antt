@@ -5,8 +5,8 @@ use Prim.Native.Nat.{ℕ}
 use lib.ListN.{length, take, drop, length-drop}
 use lib.Seq.{length-take-le, take-all}
 use Rattle.base.specs.Places.{written}
-use Rattle.base.proofs.Refusals.{refused, done}
-use Rattle.errorcontrol_tp.specs.Speech.{slot, secondHalf}
+use Rattle.stages.proofs.Entries.{sends-refused, sends-done}
+use Rattle.errorcontrol_tp.specs.Sending.{slot}
 use Rattle.errorcontrol_tp.proofs.Refusals.{send-accepted}
 use Rattle.errorcontrol_tp.proofs.Air.{slot-long}
 use Rattle.errorcontrol_tp.proofs.Chains.{copied-over}
@@ -21,14 +21,11 @@ send-refusal-requires c κs = search needs
 
 -- src/lib.rt:255:9
 returns : tie.Need-returns
-returns c =
-    let a = c .before .before .before .before .args in
-    let r = refused (c .before .send-refusal .result) _ (written (secondHalf (slot (a .start) (a .codec .now))) (a .air .now)) (a .air .now) (c .before .send-refusal .ensures) (c .if1 .taken) in
-    record { answered = r .0; target = r .1 }
+returns c = sends-refused (c .before .send-refusal .result) (c .before .send-refusal .ensures) (c .if1 .taken)
 
 -- src/lib.rt:257:19
-slot-bits-requires : tie.Need-slot-bits-requires
-slot-bits-requires c κs =
+send-requires : tie.Need-send-requires
+send-requires c κs =
     let a = c .before .before .before .before .args in
     let ok = send-accepted 216 (a .codec .now) (length (a .air .now)) (sym (c .before .send-refusal .ensures) ∙ c .if1 .left) in
     (ok .long, ok .plain)
@@ -73,12 +70,11 @@ returns-2 c =
     let a = c .before .before .before .before .before .before .before .before .before .before .before .args in
     let s = c .before .before .before .before .before .before .before .before .send-refusal in
     let none = c .before .before .before .before .before .before .before .if1 .left in
-    let symbols = c .before .before .before .before .before .before .slot-bits in
-    let r = done (s .result) _ (written (secondHalf (slot (a .start) (a .codec .now))) (a .air .now)) (a .air .now) _ (s .ensures) none
+    let symbols = c .before .before .before .before .before .before .send in
+    sends-done (s .result) (s .ensures) none
     (copied-over 216 _ (a .air .now) (c .before .before .copy .last .1 .0) (length-take-le 216 (drop 216 (symbols .result)) (omega (arith, length-drop 216 (symbols .result), ap length (symbols .ensures), slot-long (a .start) (a .codec .now)))) (send-accepted 216 (a .codec .now) (length (a .air .now)) (sym (s .ensures) ∙ none) .room) (c .before .before .copy .ensures)
     ∙ ap (λ (l : List ℕ). written (take 216 (drop 216 l)) (a .air .now)) (symbols .ensures)
-    ∙ ap (λ (l : List ℕ). written l (a .air .now)) (take-all 216 (drop 216 (slot (a .start) (a .codec .now))) (omega (arith, length-drop 216 (slot (a .start) (a .codec .now)), slot-long (a .start) (a .codec .now))))) in
-    record { answered = r .0; target = r .1 }
+    ∙ ap (λ (l : List ℕ). written l (a .air .now)) (take-all 216 (drop 216 (slot (a .start) (a .codec .now))) (omega (arith, length-drop 216 (slot (a .start) (a .codec .now)), slot-long (a .start) (a .codec .now)))))
 
 pub encode-tp-half-spec : {M : Type 1} → statement M
 encode-tp-half-spec =
@@ -86,7 +82,7 @@ encode-tp-half-spec =
     (tie.spec
     send-refusal-requires
     returns
-    slot-bits-requires
+    send-requires
     sub-copy
     part-copy-start
     part-copy-end

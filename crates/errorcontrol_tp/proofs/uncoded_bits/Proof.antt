@@ -5,7 +5,7 @@ use mathlib.Core.List.{List}
 use lib.ListN.{getD, set, replicate, length-replicate}
 use Rattle.base.specs.Places.{written, tabulate}
 use Rattle.base.proofs.Lists.{write-none, write-more, written-whole, tabulate-length}
-use Rattle.errorcontrol_tp.specs.Speech.{readBit}
+use Rattle.errorcontrol_tp.specs.Receiving.{readBit}
 use Rattle.errorcontrol_tp.proofs.Parts.{read-map}
 use native.Mathlib.Omega.{arith}
 use borrow.Author.Needs.{needs}

@@ -1,0 +1,8 @@
+pub mod Calls
+pub mod Route
+pub mod Pieces
+pub mod Passage
+pub mod Places
+pub mod Decoding
+pub mod Entries
+pub mod Demand
