@@ -128,18 +128,12 @@ fn delays_number(a: u8, b: u8, c: u8, d: u8) -> u32
     a as u32 + 256 * (b as u32 + 256 * (c as u32 + 256 * d as u32))
 }
 
-fn tell_next(own: Outcome, next: u32, answer: &mut [u64; 6]) -> u8
-    ensures { λ r. ⌜ Tells (encodedReport own next (now (answer .entry))) r (now (answer .exit)) ⌝ }
-{
-    match own {
-        Outcome::Done => say(answer, DONE, next as u64, 0, 0),
-        Outcome::Refused(number) => number,
-    }
-}
-
 pub fn tell_encoded(own: Outcome, delayed: [u8; 4], answer: &mut [u64; 6]) -> u8
     ensures { λ r. ⌜ Tells (encodedReport own (delaysNumber delayed) (now (answer .entry))) r (now (answer .exit)) ⌝ }
 {
     let next = delays_number(delayed[0], delayed[1], delayed[2], delayed[3]);
-    tell_next(own, next, answer)
+    match own {
+        Outcome::Done => say(answer, DONE, next as u64, 0, 0),
+        Outcome::Refused(number) => number,
+    }
 }

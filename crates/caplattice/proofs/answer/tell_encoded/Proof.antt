@@ -1,7 +1,8 @@
-use mathlib.Core.Path.{ap}
+use mathlib.Core.Path.{refl, sym, ap, ap₂}
 use Prim.Native.Nat.{ℕ}
 use borrow.Author.Needs.{needs}
-use Rattle.caplattice.specs.Answer.{encodedReport}
+use Rattle.base.specs.declared.Outcome.{Outcome}
+use Rattle.caplattice.specs.Answer.{encodedReport, delaysNumber}
 use Rattle.caplattice.proofs.Laws.{told-as}
 use Rattle.caplattice.proofs.answer.tell_encoded.Statement.{statement}
 use Rattle.caplattice.proofs.answer.tell_encoded.Tie as tie
@@ -21,13 +22,29 @@ array-read-delays-number-4 c = search needs
 delays-number-requires : tie.Need-delays-number-requires
 delays-number-requires c κs = search needs
 
-tell-next-requires : tie.Need-tell-next-requires
-tell-next-requires c κs = search needs
+enum-told : tie.Need-enum-told
+enum-told c = search needs
+
+cast-say : tie.Need-cast-say
+cast-say c = search needs
+
+say-requires : tie.Need-say-requires
+say-requires c κs = search needs
+
+enum-known-own : tie.Need-enum-known-own
+enum-known-own c = search needs
 
 returns : tie.Need-returns
 returns c =
-    let a = c .before .before .before .args in
-    told-as (ap (λ (n : ℕ). encodedReport (a .own) n (a .answer .now)) (c .before .before .delays-number .ensures)) (c .tell-next .ensures)
+    let d = c .before .before .before .before in
+    told-as (ap₂ (λ (own : Outcome) (n : ℕ). encodedReport own n (d .before .args .answer .now)) (sym (c .before .before .enum-told .given .1)) (d .delays-number .ensures))
+    (c .say .ensures)
+
+returns-2 : tie.Need-returns-2
+returns-2 c =
+    let a = c .before .before .before .before .args in
+    told-as (ap (λ (own : Outcome). encodedReport own (delaysNumber (a .t2)) (a .answer .now)) (sym (c .before .own .given .1)))
+    (record { number = refl; answer = refl })
 
 pub tell-encoded-spec : {M : Type 1} → statement M
 tell-encoded-spec =
@@ -38,5 +55,9 @@ tell-encoded-spec =
     array-read-delays-number-3
     array-read-delays-number-4
     delays-number-requires
-    tell-next-requires
-    returns)
+    enum-told
+    cast-say
+    say-requires
+    enum-known-own
+    returns
+    returns-2)
