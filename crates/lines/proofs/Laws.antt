@@ -122,6 +122,9 @@ line-length number kind said = simp length-append
 pub decimal-most : (n : ℕ) → n < 2 ^ 64 → length (decimal n) ≤ 20
 decimal-most n h = decimal-length 19 n (omega arith)
 
+pub heading-most : (number kind : ℕ) → number < 2 ^ 64 → length (heading number kind) ≤ 24
+heading-most number kind h = omega (arith, heading-length number kind, decimal-most number h)
+
 pub counted-most : (word : List ℕ) (n : ℕ) → length word ≤ 7 → n < 2 ^ 64 → length (counted word n) ≤ SAID
 counted-most word n h k = omega (arith, counted-length word n, decimal-most n k)
 

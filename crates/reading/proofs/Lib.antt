@@ -1,4 +1,4 @@
-pub mod Answers
+pub mod Answered
 pub mod Parts
 pub mod Turns
 pub mod Pieces

@@ -1,4 +1,3 @@
-pub mod Answers
 pub mod Turns
 pub mod Reading
 pub mod Pieces

@@ -6,9 +6,8 @@ pub mod inner;
 
 ghost use mathlib.Core.Bool.{true, false};
 ghost use mathlib.Core.Path.{_≡_};
-ghost use Rattle.reading.specs.Answers.{meant};
 ghost use Rattle.reading.specs.declared.Next.the-variants.{Goes};
-ghost use Rattle.reading.specs.Turns.{first, wrote};
+ghost use Rattle.reading.specs.Turns.{meant, first, wrote};
 
 // Whether to go on, and why not: the input has ended behind a whole record, or inside one; a kind is
 // not known; the input could not be read; the lines could not be written; no number is left.

@@ -14,8 +14,7 @@ use Rattle.reading.specs.declared.Next.{Next}
 use Rattle.reading.specs.declared.Next.the-variants.{Goes, Whole, Cut, Unknown, Unread, Unwritten, Full}
 use Rattle.reading.specs.declared.Got.{Got}
 use Rattle.reading.specs.declared.Turn.{Turn}
-use Rattle.reading.specs.Answers.{meant}
-use Rattle.reading.specs.Turns.{first, wrote}
+use Rattle.reading.specs.Turns.{meant, first, wrote}
 use Rattle.reading.specs.Reading.{brought, Onward}
 use Rattle.reading.specs.Pieces.{Ran, begins, turns, loses}
 use Rattle.runner.specs.Loop.{Story}

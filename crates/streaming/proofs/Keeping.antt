@@ -18,7 +18,7 @@ use Rattle.streaming.specs.private.Advancing.{Advances}
 use Rattle.streaming.specs.declared.inner.Stepped.{Stepped}
 use Rattle.streaming.specs.declared.inner.Advanced.{Advanced}
 use Rattle.streaming.proofs.Feeding.{feed-append}
-use Rattle.streaming.proofs.Waiting.{head, waits-small, waits-drop}
+use Rattle.streaming.proofs.Waiting.{head, waits-less, waits-drop}
 
 -- ---- a loop that moves entry i
 put : (out : List ℕ) (n v : ℕ) → n < length out → take (n + 1) (set out n v) ≡ take n out ++ (v ∷ [])
@@ -74,7 +74,7 @@ module _ (bytes : List ℕ) (count : ℕ) {p : Stepped} {new : List ℕ} (s : St
       counts = λ z. moves (s .reached .counts z);
       numbered = s .reached .numbered;
       waits = λ z m. subst (λ (x : List ℕ). Waits (itemAt x 0)) (sym rest) (waits-drop bytes (p .taken) (waits-left z (omega (arith, l, m .lines)) (m .number)));
-      less = λ z m. omega (arith, waits-small bytes (p .taken) (waits-left z (omega (arith, l, m .lines)) (m .number)), k);
+      less = λ z m. omega (arith, waits-less bytes (p .taken) (waits-left z (omega (arith, l, m .lines)) (m .number)), k);
       kept-in = omega arith;
       written-in = omega (arith, l, s .reached .written-in);
       thrice-and-line = omega (arith, s .reached .thrice-and-line, s .reached .taken-in);

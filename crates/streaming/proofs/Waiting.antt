@@ -13,6 +13,7 @@ use Rattle.records.specs.declared.Item.{Item}
 use Rattle.records.specs.declared.Item.the-variants.{Whole, Unknown, Cut, End}
 use Rattle.records.proofs.Laws.{symbols-most, item-end, item-cut, is-cut, is-end}
 use Rattle.streaming.specs.Runner.{State, holding, judge, one, feed}
+use Rattle.streaming.specs.Limits.{LONGEST}
 use Rattle.streaming.specs.private.Stepping.{Waits}
 use Rattle.streaming.proofs.Feeding.{gathers-short}
 
@@ -20,10 +21,10 @@ pub head : (s : List ℕ) (at : ℕ) → getD (drop at s) 0 0 ≡ getD s at 0
 head s at = getD-drop at s 0 0 ∙ ap (λ (m : ℕ). getD s m 0) (omega arith)
 
 -- it is less than the longest record
-pub waits-small : (s : List ℕ) (at : ℕ) → Waits (itemAt s at) → length s < at + 437
-waits-small s at w = go (itemAt s at) refl w
+pub waits-less : (s : List ℕ) (at : ℕ) → Waits (itemAt s at) → length s < at + LONGEST
+waits-less s at w = go (itemAt s at) refl w
   where
-    go : (i : Item) → itemAt s at ≡ i → Waits i → length s < at + 437
+    go : (i : Item) → itemAt s at ≡ i → Waits i → length s < at + LONGEST
     go (Whole kind place) e v = absurd v
     go (Unknown kind) e v = absurd v
     go (Cut kind) e v = let c = is-cut s at e in omega (arith, c .short, symbols-most kind)

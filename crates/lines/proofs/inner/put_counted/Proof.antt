@@ -11,11 +11,17 @@ put-text-requires : tie.Need-put-text-requires
 put-text-requires c κs = omega (arith, counted-length (c .before .before .before .args .word .now) (c .before .before .before .args .n))
 
 put-byte-requires : tie.Need-put-byte-requires
-put-byte-requires c κs = omega (arith, counted-length (c .before .before .before .before .before .before .before .args .word .now) (c .before .before .before .before .before .before .before .args .n), c .before .before .before .put-text .ensures .ends)
+put-byte-requires c κs =
+    let word = c .before .before .before in
+    let b = word .before .before .before .before in
+    omega (arith, counted-length (b .args .word .now) (b .args .n), word .put-text .ensures .ends)
 
 put-decimal-requires : tie.Need-put-decimal-requires
 put-decimal-requires c κs =
-    omega (arith, counted-length (c .before .before .before .before .before .before .before .before .before .before .before .args .word .now) (c .before .before .before .before .before .before .before .before .before .before .before .args .n), c .before .before .before .before .before .before .before .put-text .ensures .ends, c .before .before .before .put-byte .ensures .ends)
+    let byte = c .before .before .before in
+    let word = byte .before .before .before .before in
+    let b = word .before .before .before .before in
+    omega (arith, counted-length (b .args .word .now) (b .args .n), word .put-text .ensures .ends, byte .put-byte .ensures .ends)
 
 same-length : tie.Need-same-length
 same-length c = search needs
@@ -23,7 +29,10 @@ same-length c = search needs
 returns : tie.Need-returns
 unfolding counted
 returns c =
-    put-then (omega arith) (put-then (omega arith) (c .before .before .before .before .before .before .before .before .before .before .put-text .ensures) (c .before .before .before .before .before .before .put-byte .ensures)) (c .before .before .put-decimal .ensures)
+    let number = c .before .before in
+    let byte = number .before .before .before .before in
+    let word = byte .before .before .before .before in
+    put-then (omega arith) (put-then (omega arith) (word .put-text .ensures) (byte .put-byte .ensures)) (number .put-decimal .ensures)
 
 pub put-counted-spec : {M : Type 1} → statement M
 put-counted-spec =

@@ -16,17 +16,22 @@ put-counted-requires c κs = omega (arith, decimal-most (c .before .before .befo
 
 put-byte-requires : tie.Need-put-byte-requires
 put-byte-requires c κs =
-    omega (arith, decimal-most (c .before .before .before .before .before .before .before .args .count) (c .before .before .before .before .before .before .before .fits .count .fits), counted-length (ascii "end") (c .before .before .before .before .before .before .before .args .count), c .before .before .before .put-counted .ensures .ends)
+    let counted-to = c .before .before .before in
+    let b = counted-to .before .before .before .before in
+    omega (arith, decimal-most (b .args .count) (b .fits .count .fits), counted-length (ascii "end") (b .args .count), counted-to .put-counted .ensures .ends)
 
 same-length : tie.Need-same-length
 same-length c = search needs
 
 returns : tie.Need-returns
 unfolding endLine
-returns c = (
-  put-then (omega arith) (c .before .before .before .before .before .before .put-counted .ensures) (c .before .before .put-byte .ensures),
-  omega (arith, decimal-most (c .before .before .before .before .before .before .before .before .before .before .args .count) (c .before .before .before .before .before .before .before .before .before .before .fits .count .fits), counted-length (ascii "end") (c .before .before .before .before .before .before .before .before .before .before .args .count), c .before .before .before .before .before .before .put-counted .ensures .ends, c .before .before .put-byte .ensures .ends),
-)
+returns c =
+    let byte = c .before .before in
+    let counted-to = byte .before .before .before .before in
+    let b = counted-to .before .before .before .before in (
+      put-then (omega arith) (counted-to .put-counted .ensures) (byte .put-byte .ensures),
+      omega (arith, decimal-most (b .args .count) (b .fits .count .fits), counted-length (ascii "end") (b .args .count), counted-to .put-counted .ensures .ends, byte .put-byte .ensures .ends),
+    )
 
 pub put-end-spec : {M : Type 1} → statement M
 put-end-spec = tie.close (tie.spec slice-aggregate-put-counted put-counted-requires put-byte-requires same-length returns)

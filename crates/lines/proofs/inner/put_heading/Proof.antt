@@ -11,14 +11,25 @@ put-decimal-requires : tie.Need-put-decimal-requires
 put-decimal-requires c κs = omega (arith, heading-length (c .before .before .args .number) (c .before .before .args .kind))
 
 put-byte-requires : tie.Need-put-byte-requires
-put-byte-requires c κs = omega (arith, heading-length (c .before .before .before .before .before .before .args .number) (c .before .before .before .before .before .before .args .kind), c .before .before .before .put-decimal .ensures .ends)
+put-byte-requires c κs =
+    let number = c .before .before .before in
+    let b = number .before .before .before in
+    omega (arith, heading-length (b .args .number) (b .args .kind), number .put-decimal .ensures .ends)
 
 put-hex-requires : tie.Need-put-hex-requires
-put-hex-requires c κs = omega (arith, heading-length (c .before .before .before .before .before .before .before .before .before .before .args .number) (c .before .before .before .before .before .before .before .before .before .before .args .kind), c .before .before .before .before .before .before .before .put-decimal .ensures .ends, c .before .before .before .put-byte .ensures .ends)
+put-hex-requires c κs =
+    let byte = c .before .before .before in
+    let number = byte .before .before .before .before in
+    let b = number .before .before .before in
+    omega (arith, heading-length (b .args .number) (b .args .kind), number .put-decimal .ensures .ends, byte .put-byte .ensures .ends)
 
 put-byte-requires-2 : tie.Need-put-byte-requires-2
 put-byte-requires-2 c κs =
-    omega (arith, heading-length (c .before .before .before .before .before .before .before .before .before .before .before .before .before .before .args .number) (c .before .before .before .before .before .before .before .before .before .before .before .before .before .before .args .kind), c .before .before .before .before .before .before .before .before .before .before .before .put-decimal .ensures .ends, c .before .before .before .before .before .before .before .put-byte .ensures .ends, c .before .before .before .put-hex .ensures .ends, hex-length 2 (c .before .before .before .before .before .before .before .before .before .before .before .before .before .before .args .kind))
+    let digits = c .before .before .before in
+    let byte = digits .before .before .before .before in
+    let number = byte .before .before .before .before in
+    let b = number .before .before .before in
+    omega (arith, heading-length (b .args .number) (b .args .kind), number .put-decimal .ensures .ends, byte .put-byte .ensures .ends, digits .put-hex .ensures .ends, hex-length 2 (b .args .kind))
 
 same-length : tie.Need-same-length
 same-length c = search needs
@@ -26,9 +37,13 @@ same-length c = search needs
 returns : tie.Need-returns
 unfolding heading
 returns c =
+    let last = c .before .before in
+    let digits = last .before .before .before .before in
+    let byte = digits .before .before .before .before in
+    let number = byte .before .before .before .before in
     put-then (omega arith)
-    (put-then (omega arith) (put-then (omega arith) (c .before .before .before .before .before .before .before .before .before .before .before .before .before .before .put-decimal .ensures) (c .before .before .before .before .before .before .before .before .before .before .put-byte .ensures)) (c .before .before .before .before .before .before .put-hex .ensures))
-    (c .before .before .put-byte2 .ensures)
+    (put-then (omega arith) (put-then (omega arith) (number .put-decimal .ensures) (byte .put-byte .ensures)) (digits .put-hex .ensures))
+    (last .put-byte2 .ensures)
 
 pub put-heading-spec : {M : Type 1} → statement M
 put-heading-spec = tie.close (tie.spec put-decimal-requires put-byte-requires put-hex-requires put-byte-requires-2 same-length returns)

@@ -11,11 +11,17 @@ put-counted-requires : tie.Need-put-counted-requires
 put-counted-requires c κs = omega (arith, judged-length (c .before .before .before .args .word .now) (c .before .before .before .args .place) (c .before .before .before .args .contents))
 
 put-byte-requires : tie.Need-put-byte-requires
-put-byte-requires c κs = omega (arith, judged-length (c .before .before .before .before .before .before .before .args .word .now) (c .before .before .before .before .before .before .before .args .place) (c .before .before .before .before .before .before .before .args .contents), c .before .before .before .put-counted .ensures .ends)
+put-byte-requires c κs =
+    let counted-to = c .before .before .before in
+    let b = counted-to .before .before .before .before in
+    omega (arith, judged-length (b .args .word .now) (b .args .place) (b .args .contents), counted-to .put-counted .ensures .ends)
 
 put-hex-requires : tie.Need-put-hex-requires
 put-hex-requires c κs =
-    omega (arith, judged-length (c .before .before .before .before .before .before .before .before .before .before .before .args .word .now) (c .before .before .before .before .before .before .before .before .before .before .before .args .place) (c .before .before .before .before .before .before .before .before .before .before .before .args .contents), c .before .before .before .before .before .before .before .put-counted .ensures .ends, c .before .before .before .put-byte .ensures .ends)
+    let byte = c .before .before .before in
+    let counted-to = byte .before .before .before .before in
+    let b = counted-to .before .before .before .before in
+    omega (arith, judged-length (b .args .word .now) (b .args .place) (b .args .contents), counted-to .put-counted .ensures .ends, byte .put-byte .ensures .ends)
 
 same-length : tie.Need-same-length
 same-length c = search needs
@@ -23,7 +29,10 @@ same-length c = search needs
 returns : tie.Need-returns
 unfolding judged
 returns c =
-    put-then (omega arith) (put-then (omega arith) (c .before .before .before .before .before .before .before .before .before .before .put-counted .ensures) (c .before .before .before .before .before .before .put-byte .ensures)) (c .before .before .put-hex .ensures)
+    let digits = c .before .before in
+    let byte = digits .before .before .before .before in
+    let counted-to = byte .before .before .before .before in
+    put-then (omega arith) (put-then (omega arith) (counted-to .put-counted .ensures) (byte .put-byte .ensures)) (digits .put-hex .ensures)
 
 pub put-judged-spec : {M : Type 1} → statement M
 put-judged-spec = tie.close (tie.spec put-counted-requires put-byte-requires put-hex-requires same-length returns)

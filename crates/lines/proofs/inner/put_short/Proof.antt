@@ -2,7 +2,7 @@
 use native.Mathlib.Omega.{arith}
 use borrow.Author.Needs.{needs}
 use Rattle.lines.specs.Text.{ascii}
-use Rattle.lines.proofs.Laws.{decimal-most, heading-length, line-length}
+use Rattle.lines.proofs.Laws.{heading-most, line-length}
 use Rattle.lines.proofs.inner.put_short.Statement.{statement}
 use Rattle.lines.proofs.inner.put_short.Tie as tie
 
@@ -11,17 +11,20 @@ slice-aggregate-put-line c = search needs
 
 put-line-requires : tie.Need-put-line-requires
 put-line-requires c κs =
-    let a = c .before .before .before .args in
-    omega (arith, decimal-most (a .number) (c .before .before .before .fits .number .fits), heading-length (a .number) (a .kind), line-length (a .number) (a .kind) (ascii "short"))
+    let b = c .before .before .before in
+    let a = b .args in
+    omega (arith, heading-most (a .number) (a .kind) (b .fits .number .fits), line-length (a .number) (a .kind) (ascii "short"))
 
 same-length : tie.Need-same-length
 same-length c = search needs
 
 returns : tie.Need-returns
 returns c =
-    let a = c .before .before .before .before .before .before .args in (
-      c .before .before .put-line .ensures,
-      omega (arith, decimal-most (a .number) (c .before .before .before .before .before .before .fits .number .fits), heading-length (a .number) (a .kind), line-length (a .number) (a .kind) (ascii "short"), c .before .before .put-line .ensures .ends),
+    let put = c .before .before in
+    let b = put .before .before .before .before in
+    let a = b .args in (
+      put .put-line .ensures,
+      omega (arith, heading-most (a .number) (a .kind) (b .fits .number .fits), line-length (a .number) (a .kind) (ascii "short"), put .put-line .ensures .ends),
     )
 
 pub put-short-spec : {M : Type 1} → statement M

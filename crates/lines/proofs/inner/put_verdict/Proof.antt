@@ -50,24 +50,30 @@ same-length c = search needs
 
 returns : tie.Need-returns
 returns c =
-    verdict-put (c .before .before .before .before .before .before .verdict .given .1) (c .before .before .put-judged .ensures)
-    (judged-most (ascii "clean") 0 (c .before .before .before .before .before .before .verdict .given .0 .0) (omega arith) (omega arith))
+    let judged-to = c .before .before in
+    let it = judged-to .before .before .before .before in
+    verdict-put (it .verdict .given .1) (judged-to .put-judged .ensures)
+    (judged-most (ascii "clean") 0 (it .verdict .given .0 .0) (omega arith) (omega arith))
 
 same-length-2 : tie.Need-same-length-2
 same-length-2 c = search needs
 
 returns-2 : tie.Need-returns-2
 returns-2 c =
-    verdict-put (c .before .before .before .before .before .before .verdict2 .given .1) (c .before .before .put-judged2 .ensures)
-    (judged-most (ascii "mended") (c .before .before .before .before .before .before .verdict2 .given .0 .0) (c .before .before .before .before .before .before .verdict2 .given .0 .1 .0) (omega arith) (omega arith))
+    let judged-to = c .before .before in
+    let it = judged-to .before .before .before .before in
+    verdict-put (it .verdict2 .given .1) (judged-to .put-judged2 .ensures)
+    (judged-most (ascii "mended") (it .verdict2 .given .0 .0) (it .verdict2 .given .0 .1 .0) (omega arith) (omega arith))
 
 same-length-3 : tie.Need-same-length-3
 same-length-3 c = search needs
 
 returns-3 : tie.Need-returns-3
 returns-3 c =
-    verdict-put (c .before .before .before .before .before .before .verdict3 .given .1) (c .before .before .put-judged3 .ensures)
-    (judged-most (ascii "beyond") 0 (c .before .before .before .before .before .before .verdict3 .given .0 .0) (omega arith) (omega arith))
+    let judged-to = c .before .before in
+    let it = judged-to .before .before .before .before in
+    verdict-put (it .verdict3 .given .1) (judged-to .put-judged3 .ensures)
+    (judged-most (ascii "beyond") 0 (it .verdict3 .given .0 .0) (omega arith) (omega arith))
 
 pub put-verdict-spec : {M : Type 1} → statement M
 put-verdict-spec = tie.close (tie.spec enum-known-verdict slice-aggregate-put-judged cast-put-judged put-judged-requires enum-known-verdict-2 slice-aggregate-put-judged-2 cast-put-judged-2 cast-put-judged-3 put-judged-requires-2 enum-known-verdict-3 slice-aggregate-put-judged-3 cast-put-judged-4 put-judged-requires-3 same-length returns same-length-2 returns-2 same-length-3 returns-3)

@@ -8,7 +8,7 @@ use lib.Signed.{ltZ, nonNeg}
 use mir.Syntax.{w64}
 use mir.Val.{Fits}
 use mir.Facts.{toZ-ofZ}
-use Rattle.reading.proofs.Answers.{unread, counted, came-few, came-all}
+use Rattle.reading.proofs.Answered.{unread, counted, came-few, came-all}
 use Rattle.reading.proofs.Got.answered.Statement.{statement}
 use Rattle.reading.proofs.Got.answered.Tie as tie
 

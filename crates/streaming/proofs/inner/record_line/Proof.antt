@@ -38,10 +38,13 @@ same-length c = search needs
 
 returns : tie.Need-returns
 returns c =
-    let a = c .before .before .before .before .before .before .before .before .before .args in
-    let m = c .before .before .before .before .before .before .symbols .result in (
-      line-of _ (a .kind) (a .place) (a .place + 1 + 4 + m - (a .place + 1)) (a .s .now) (c .before .before .before .before .answer-to .ensures) (omega (arith, c .before .before .before .before .before .before .symbols .ensures)) (c .before .before .put-record .ensures .0),
-      c .before .before .put-record .ensures .1,
+    let put = c .before .before in
+    let answered = put .before .before in
+    let counted = answered .before .before in
+    let a = counted .before .before .before .args in
+    let n = counted .symbols .result in (
+      line-of _ (a .kind) (a .place) (a .place + 1 + 4 + n - (a .place + 1)) (a .s .now) (answered .answer-to .ensures) (omega (arith, counted .symbols .ensures)) (put .put-record .ensures .0),
+      put .put-record .ensures .1,
     )
 
 pub record-line-spec : {M : Type 1} → statement M

@@ -26,9 +26,9 @@ same-length c = search needs
 
 returns : tie.Need-returns Inv-loop μ-loop
 returns c =
-    let took = c .before .before .before .before .before .take-item .ensures in
-    let l = c .before .before .before .before .before .before .before .before in
-    record { reached = took .reached _ (l .loop .inv .0); settled = took .settled (c .if1 .taken) }
+    let took = c .before .before .before .before .before in
+    let l = took .before .before .before in
+    record { reached = took .take-item .ensures .reached _ (l .loop .inv .0); settled = took .take-item .ensures .settled (c .if1 .taken) }
 
 sub-items : tie.Need-sub-items Inv-loop μ-loop
 sub-items c = search needs
@@ -38,9 +38,12 @@ loop-less c = search needs
 
 loop-again : tie.Need-loop-again Inv-loop μ-loop
 loop-again c =
-    let took = c .before .before .before .before .before .take-item .ensures in
-    let l = c .before .before .before .before .before .before .before .before in
-    (took .reached _ (l .loop .inv .0), omega (arith, took .forth, l .loop .inv .1), c .before .before .before .before .before .take-item .kept .1 .1 .0 ∙ l .loop .inv .2)
+    let took = c .before .before .before .before .before in
+    let l = took .before .before .before in (
+      took .take-item .ensures .reached _ (l .loop .inv .0),
+      omega (arith, took .take-item .ensures .forth, l .loop .inv .1),
+      took .take-item .kept .1 .1 .0 ∙ l .loop .inv .2,
+    )
 
 same-length-2 : tie.Need-same-length-2 Inv-loop μ-loop
 same-length-2 c = search needs

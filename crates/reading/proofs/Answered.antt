@@ -12,7 +12,7 @@ use mir.Syntax.{w64}
 use mir.Val.{Fits, SFits}
 use mir.Facts.{fits-natAbs}
 use Rattle.streaming.proofs.Stepping.{no-true}
-use Rattle.reading.specs.Answers.{meant}
+use Rattle.reading.specs.Turns.{meant}
 
 pub unread : (room : ℕ) (answer : ℤ) → ltZ answer (pos 0) ≡ true → record { bytes = 0; failed = true } ≡ meant answer room
 unread room (pos n) e = absurd (omega (arith, ltb-true n 0 e))
