@@ -71,7 +71,7 @@ module _ (bytes : List ℕ) (count : ℕ) (old : List ℕ) {p : Advanced} {buf o
     how = inl refl;
     fits = fits;
     less = λ g. (a .less z m, m .number);
-    moves = λ g. a .counts z;
+    moves = λ g. a .moves z;
   }
 
   pub brings-full :

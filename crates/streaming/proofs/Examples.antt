@@ -1,4 +1,4 @@
--- Document 01's example, an unknown kind alone, and the empty input, from the definitions.
+-- Document 01's example, an unknown kind alone, a record that is cut, and the empty input, from the definitions.
 -- Assumes nothing.
 use mathlib.Core.Path.{_≡_, refl, ap}
 use mathlib.Core.List.{[], _∷_, _++_}
@@ -19,6 +19,11 @@ of-nothing = refl
 pub of-unknown : linesOf (0x7f ∷ []) ≡ ascii "1 7f unknown\nend 0\n"
 unfolding one feed closing stepAt symbolsOf line endLine counted decimalWithin sign
 of-unknown = refl
+
+-- a record that is cut behind its kind
+pub of-cut : linesOf (0x05 ∷ []) ≡ ascii "1 05 short\nend 0\n"
+unfolding one feed closing stepAt symbolsOf line endLine counted decimalWithin sign
+of-cut = refl
 
 -- document 01: kind 05, start 0, the 30 bits of 0x20009b61, then a byte 7f
 pub of-document : linesOf ((0x05 ∷ accessBody) ++ (0x7f ∷ [])) ≡ ascii "1 05 mended 30 2000\n2 7f unknown\nend 1\n"

@@ -71,7 +71,7 @@ module _ (bytes : List ℕ) (count : ℕ) {p : Stepped} {new : List ℕ} (s : St
     pub advanced : {old : List ℕ} → length new ≡ length old → Advances bytes count old r buf new
     advanced {old} l = record {
       fed = came;
-      counts = λ z. moves (s .reached .counts z);
+      moves = λ z. moved (s .reached .moves z);
       numbered = s .reached .numbered;
       waits = λ z m. subst (λ (x : List ℕ). Waits (itemAt x 0)) (sym rest) (waits-drop bytes (p .taken) (waits-left z (omega (arith, l, m .lines)) (m .number)));
       less = λ z m. omega (arith, waits-less bytes (p .taken) (waits-left z (omega (arith, l, m .lines)) (m .number)), k);
@@ -80,6 +80,6 @@ module _ (bytes : List ℕ) (count : ℕ) {p : Stepped} {new : List ℕ} (s : St
       thrice-and-line = omega (arith, s .reached .thrice-and-line, s .reached .taken-in);
     }
       where
-        moves : (count < p .count) ⊎ ((p .count ≡ count) × (p .taken ≡ 0)) → (count < p .count) ⊎ ((p .count ≡ count) × (kept ≡ length bytes))
-        moves (inl x) = inl x
-        moves (inr x) = inr (x .0, omega (arith, x .1, k))
+        moved : (count < p .count) ⊎ ((p .count ≡ count) × (p .taken ≡ 0)) → (count < p .count) ⊎ ((p .count ≡ count) × (kept ≡ length bytes))
+        moved (inl x) = inl x
+        moved (inr x) = inr (x .0, omega (arith, x .1, k))

@@ -126,7 +126,7 @@ module _ (bytes : List ℕ) (p : Stepped) (old : List ℕ) where
                 written-in = fits;
                 thrice = λ z. few;
                 thrice-and-line = omega (arith, few);
-                counts = λ z. inl (more (o .counts (can .reads)));
+                moves = λ z. inl (more (o .moves (can .reads)));
                 numbered = λ z. no-true z;
               };
           forth = omega (arith, a);
@@ -149,7 +149,7 @@ module _ (bytes : List ℕ) (p : Stepped) (old : List ℕ) where
         written-in = fits;
         thrice = λ z. no-true (sym z);
         thrice-and-line = omega (arith, l, o .thrice (can .reads));
-        counts = λ z. no-true (sym z);
+        moves = λ z. no-true (sym z);
         numbered = λ z. can .number;
       };
       forth = omega arith;
@@ -166,7 +166,7 @@ module _ (bytes : List ℕ) (count : ℕ) where
     written-in = omega arith;
     thrice = λ z. omega arith;
     thrice-and-line = omega arith;
-    counts = λ z. inr (refl, refl);
+    moves = λ z. inr (refl, refl);
     numbered = λ z. no-true z;
   }
 

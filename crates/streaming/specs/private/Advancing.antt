@@ -23,7 +23,7 @@ pub record Advances (bytes : List ℕ) (count : ℕ) (old : List ℕ) (r : Advan
   -- after any text, what is kept is all of the bytes that the definition has yet to take
   pub fed : (text : List ℕ) → feed (holding [] text count) bytes ≡ feed (cameTo text (r .written) new (r .count) (r .stopped)) (take (r .kept) buf)
   -- it counts a record, or keeps all
-  pub counts : r .stopped ≡ false → (count < r .count) ⊎ ((r .count ≡ count) × (r .kept ≡ length bytes))
+  pub moves : r .stopped ≡ false → (count < r .count) ⊎ ((r .count ≡ count) × (r .kept ≡ length bytes))
   pub numbered : r .stopped ≡ true → r .count < LARGEST
   -- what is kept waits for more, and is less than a record
   pub waits : r .stopped ≡ false → Roomy bytes old r → Waits (itemAt (take (r .kept) buf) 0)

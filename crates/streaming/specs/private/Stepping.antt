@@ -41,7 +41,7 @@ pub record Reached (bytes : List ℕ) (count : ℕ) (p : Stepped) (out : List �
   pub thrice : p .stopped ≡ false → p .written ≤ 3 * p .taken
   pub thrice-and-line : p .written ≤ 3 * p .taken + LINE
   -- a record was counted, or nothing was taken
-  pub counts : p .stopped ≡ false → (count < p .count) ⊎ ((p .count ≡ count) × (p .taken ≡ 0))
+  pub moves : p .stopped ≡ false → (count < p .count) ⊎ ((p .count ≡ count) × (p .taken ≡ 0))
   pub numbered : p .stopped ≡ true → p .count < LARGEST
 
 -- it takes no more: what it leaves waits for more, if another item could be taken
