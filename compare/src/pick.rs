@@ -129,7 +129,8 @@ fn of_turns(mut left: usize, most: usize, ways: &BTreeMap<Way, Vec<Answered>>) -
 fn write_list(files: &[String], list: &str, said: &str) -> io::Result<()> {
     let classes = required();
     let mut chance = Chance(7);
-    let (mut out, mut said) = (BufWriter::new(File::create(list)?), File::create(said)?);
+    let mut out = BufWriter::new(File::create(list)?);
+    let mut records = 0;
     for (entry, mut ways) in gathered(files)? {
         let name = ENTRIES[entry as usize];
         let (left, most) = room(name);
@@ -144,8 +145,9 @@ fn write_list(files: &[String], list: &str, said: &str) -> io::Result<()> {
         for (request, reply) in &picked {
             record::write(&mut out, request, reply)?;
         }
-        writeln!(said, "{name} {} equal", picked.len())?;
+        records += picked.len();
     }
+    writeln!(File::create(said)?, "{records} equal")?;
     out.flush()
 }
 

@@ -1,75 +1,54 @@
-// What target and trellis hold before a request, and what a record says they hold after it.
-fn next_entry(x: u16) -> u16 {
-    (x % 251 + 29) % 251
+// What a target holds before a request, and whether target and trellis hold after it what the record says.
+ghost use mathlib.Core.Path.{_≡_};
+ghost use Prim.Native.Nat.{_≤_};
+ghost use lib.ListN.{length};
+
+// Entry i of a target where nothing is lent.
+fn filler(seed: u8, i: usize) -> u8 {
+    ((i % 251 * 29 + seed as usize) % 251 + 2) as u8
 }
 
-fn entry_of(x: u16) -> u8 {
-    (x % 251 + 2) as u8
+// The entry of a slice that has one at i, or else another.
+fn first_of(s: &[u8], i: usize, other: u8) -> u8 {
+    if i < s.len() { s[i] } else { other }
 }
 
-fn next_choice(x: u32) -> u32 {
-    (x % 65535 + 257) % 65535
-}
-
-fn choice_of(x: u32) -> u16 {
-    (x % 65535 + 1) as u16
-}
-
-// Entry i before the call: the lent slice's own, or x's.
-fn was(lent: bool, source: &[u8], i: usize, x: u16) -> u8 {
-    if lent {
-        if i < source.len() {
-            return source[i];
-        }
+// A target with n entries filled; its front is the lent slice, if one is lent.
+pub fn target(seed: u8, lent: &[u8], n: usize) -> [u8; 65536]
+    requires { ⌜ n ≤ 65536 ⌝ }
+    ensures { λ r. ⌜ length r ≡ 65536 ⌝ }
+{
+    let mut target = io::large_buffer();
+    for i in 0..n {
+        target[i] = first_of(lent, i, filler(seed, i));
     }
-    entry_of(x)
+    target
 }
 
-// Entry i after the call: what was written, or what was there before.
-fn after(written: &[u8], i: usize, before: u8) -> u8 {
-    if i < written.len() {
-        written[i]
-    } else {
-        before
-    }
-}
-
-pub fn fill_target(seed: u8, lent: bool, source: &[u8], target: &mut [u8]) {
-    let mut x = seed as u16;
-    for i in 0..target.len() {
-        target[i] = was(lent, source, i, x);
-        x = next_entry(x);
-    }
-}
-
-pub fn same_target(seed: u8, lent: bool, source: &[u8], written: &[u8], target: &[u8]) -> bool {
-    let mut x = seed as u16;
+// Whether a target's front is what was written, and the rest what was there before.
+pub fn same_target(before: [u8; 65536], written: &[u8], after: [u8; 65536], n: usize) -> bool
+    requires { ⌜ n ≤ 65536 ⌝ }
+{
     let mut same = true;
-    for i in 0..target.len() {
-        same = same & (target[i] == after(written, i, was(lent, source, i, x)));
-        x = next_entry(x);
+    for i in 0..n {
+        same = same & (after[i] == first_of(written, i, before[i]));
     }
     same
 }
 
-pub fn fill_trellis(seed: u8, trellis: &mut [u16]) {
-    let mut x = seed as u32;
-    for i in 0..trellis.len() {
-        trellis[i] = choice_of(x);
-        x = next_choice(x);
-    }
+// Every entry is 1 before a request; the length is all that lending the array needs.
+pub fn trellis() -> [u16; 1024]
+    ensures { λ r. ⌜ length r ≡ 1024 ⌝ }
+{
+    [1u16; 1024]
 }
 
-fn choice_after(zeroed: usize, i: usize, x: u32) -> u16 {
-    if i < zeroed { 0 } else { choice_of(x) }
-}
-
-pub fn same_trellis(seed: u8, zeroed: usize, trellis: &[u16]) -> bool {
-    let mut x = seed as u32;
+// Whether a trellis' front is zero, and the rest what was there before.
+pub fn same_trellis(trellis: [u16; 1024], zeroed: usize) -> bool {
     let mut same = true;
-    for i in 0..trellis.len() {
-        same = same & (trellis[i] == choice_after(zeroed, i, x));
-        x = next_choice(x);
+    for i in 0..1024 {
+        let choice = trellis[i];
+        same = same & (choice < 2) & ((choice == 0) == (i < zeroed));
     }
     same
 }

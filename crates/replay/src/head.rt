@@ -1,5 +1,28 @@
-// The numbers at the head of a record (compare/FORMAT.md), big-endian. Each is read where it is needed; 0 where the list has ended.
+// The head of a record (compare/FORMAT.md): numbers, big-endian; 0 where the list has ended.
 ghost use Prim.Native.Nat.{_≤_};
+
+// Which entry is asked, and the three numbers of the request, each in the widths of the parameters that it can be.
+pub struct Numbers {
+    pub entry: u8,
+    pub kind: u8,
+    pub half: u16,
+    pub word: u32,
+    pub size: usize,
+    pub second_half: u16,
+    pub second_word: u32,
+    pub second_size: usize,
+    pub third: u8,
+}
+
+pub struct Head {
+    pub source: usize,
+    pub target: usize,
+    pub seed: u8,
+    pub trellis: usize,
+    pub answer: u64,
+    pub written: usize,
+    pub zeroed: usize,
+}
 
 fn byte(s: &[u8], i: usize) -> u8 {
     if i < s.len() { s[i] } else { 0 }
@@ -18,65 +41,41 @@ fn number(s: &[u8], from: usize, to: usize) -> u64 {
     n
 }
 
-// The two bytes at high and low.
-fn count(s: &[u8], high: usize, low: usize) -> usize
+fn count(s: &[u8], from: usize, to: usize) -> usize
     ensures { λ r. ⌜ r ≤ 65535 ⌝ }
 {
-    byte(s, high) as usize * 256 + byte(s, low) as usize
+    (number(s, from, to) % 65536) as usize
 }
 
-pub fn entry(record: &[u8]) -> u8 {
-    byte(record, 0)
-}
-
-pub fn first(record: &[u8]) -> u64 {
-    number(record, 1, 9)
-}
-
-pub fn second(record: &[u8]) -> u64 {
-    number(record, 9, 17)
-}
-
-pub fn third(record: &[u8]) -> u64 {
-    number(record, 17, 19)
-}
-
-pub fn source_length(record: &[u8]) -> usize
-    ensures { λ r. ⌜ r ≤ 65535 ⌝ }
-{
-    count(record, 19, 20)
-}
-
-// The scrambler's source is its target too.
-pub fn is_lent(entry: u8) -> bool {
-    (2 < entry) & (entry < 6)
-}
-
-pub fn target_length(record: &[u8]) -> usize {
-    if is_lent(entry(record)) {
-        return count(record, 19, 20);
+fn cut(entry: u8, first: u64, second: u64, third: u8) -> Numbers {
+    Numbers {
+        entry: entry,
+        kind: (first % 256) as u8,
+        half: (first % 65536) as u16,
+        word: (first % 4294967296) as u32,
+        size: first as usize,
+        second_half: (second % 65536) as u16,
+        second_word: (second % 4294967296) as u32,
+        second_size: second as usize,
+        third: third,
     }
-    count(record, 21, 22)
 }
 
-pub fn seed(record: &[u8]) -> u8 {
-    byte(record, 23)
+pub fn request(s: &[u8]) -> Numbers {
+    cut(byte(s, 0), number(s, 1, 9), number(s, 9, 17), byte(s, 18))
 }
 
-pub fn trellis_length(record: &[u8]) -> usize {
-    count(record, 24, 25)
-}
-
-pub fn answer(record: &[u8]) -> u64 {
-    number(record, 26, 34)
-}
-
-pub fn written_length(record: &[u8]) -> usize
-    ensures { λ r. ⌜ r ≤ 65535 ⌝ }
+pub fn read(s: &[u8]) -> Head
+    ensures { λ r. ⌜ r .source ≤ 65535 ⌝ }
+    ensures { λ r. ⌜ r .written ≤ 65535 ⌝ }
 {
-    count(record, 34, 35)
-}
-
-pub fn zeroed(record: &[u8]) -> usize {
-    count(record, 36, 37)
+    Head {
+        source: count(s, 19, 21),
+        target: count(s, 21, 23),
+        seed: byte(s, 23),
+        trellis: count(s, 24, 26),
+        answer: number(s, 26, 34),
+        written: count(s, 34, 36),
+        zeroed: count(s, 36, 38),
+    }
 }

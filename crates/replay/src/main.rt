@@ -1,145 +1,112 @@
-// Repeats a list of answered requests (compare/FORMAT.md) on the proved entries, and says for each entry how many came out
-// equal: the answer, and every entry of target and trellis after the call. Each that does not is named.
+// Repeats a list of answered requests (compare/FORMAT.md) on the exported functions, and says how many came out equal: the answer, and
+// every entry of target and trellis after the call. Each that does not is named by its entry and the byte of the list at which it begins.
 // Added by us. The list holds the original's answers and, where document 01 refuses or reads otherwise, the independent program's.
 ghost use mathlib.Core.Path.{_≡_};
-ghost use Prim.Native.Nat.{_≤_};
+ghost use Prim.Native.Nat.{_≤_, _<_};
 ghost use lib.ListN.{length};
 
 mod asked;
 mod before;
 mod head;
+mod said;
 mod say;
+mod shape;
 
-// What became of a request, and how many bytes its record has; 0 where the list ends before the record does.
+use head::Head;
+use head::Numbers;
+
+// What became of a request, and how many bytes its record has.
 struct Turn {
     entry: u8,
     equal: bool,
     length: usize,
 }
 
-fn is_lent(record: &[u8]) -> bool {
-    head::is_lent(head::entry(record))
-}
-
-fn fill(record: &[u8], source: &[u8], target: &mut [u8], trellis: &mut [u16]) {
-    let seed = head::seed(record);
-    before::fill_target(seed, is_lent(record), source, target);
-    before::fill_trellis(seed, trellis);
-}
-
-fn same_target(record: &[u8], source: &[u8], written: &[u8], target: &[u8]) -> bool {
-    before::same_target(head::seed(record), is_lent(record), source, written, target)
-}
-
-fn same_trellis(record: &[u8], trellis: &[u16]) -> bool {
-    before::same_trellis(head::seed(record), head::zeroed(record), trellis)
-}
-
-fn same_answer(record: &[u8], answer: u64) -> bool {
-    answer == head::answer(record)
-}
-
-// Whether the entry answers the request as the record says, with target and trellis of the record's lengths.
-fn asked_with(
-    record: &[u8],
-    source: &[u8],
-    written: &[u8],
-    target: &mut [u8],
-    trellis: &mut [u16],
-) -> bool {
-    fill(record, source, target, trellis);
-    let answer = asked::answer(record, source, target, trellis);
-    same_answer(record, answer)
-        & same_target(record, source, written, target)
-        & same_trellis(record, trellis)
-}
-
-// The length is all that lending the array needs.
-fn trellis_room() -> [u16; 1024]
-    ensures { λ r. ⌜ length r ≡ 1024 ⌝ }
+// How much of its source an entry is lent as its target's front.
+fn lent(entry: u8, n: usize) -> usize
+    ensures { λ r. ⌜ r ≤ n ⌝ }
 {
-    [0u16; 1024]
+    if shape::shape(entry) == b's' { n } else { 0 }
 }
 
-// A record of longer slices than these counts as one that differs.
-fn repeated(record: &[u8], source: &[u8], written: &[u8]) -> bool {
-    let mut target = io::large_buffer();
-    let mut trellis = trellis_room();
-    let n = head::target_length(record);
-    let m = head::trellis_length(record);
-    if n <= 65536 {
-        if m <= 1024 {
-            return asked_with(record, source, written, &mut target[..n], &mut trellis[..m]);
-        }
+// How long the target is: as long as the source that is lent, or else as the record says.
+fn target_length(lent: usize, said: usize) -> usize {
+    if lent == 0 { said } else { lent }
+}
+
+// Whether the entry answers as the record says and leaves the target that the record says.
+fn moved(a: Numbers, h: Head, source: &[u8], written: &[u8]) -> bool {
+    let k = lent(a.entry, source.len());
+    let n = target_length(k, h.target);
+    if 65536 < n {
+        return false;
     }
-    false
+    let before = before::target(h.seed, &source[..k], n);
+    let mut target = before;
+    let answer = asked::answer(a, h, source, &mut target[..n]);
+    (answer == h.answer) & before::same_target(before, written, target, n)
 }
 
-// The first record of what is left of the list.
+fn repeated(a: Numbers, h: Head, source: &[u8], written: &[u8]) -> bool {
+    if shape::shape(a.entry) == b'n' {
+        return asked::number(a, source) == h.answer;
+    }
+    moved(a, h, source, written)
+}
+
+// The first record of what is left of the list. One that is cut does not count as equal, and nothing is left after it.
 fn record(rest: &[u8]) -> Turn
+    requires { ⌜ 0 < length (now rest) ⌝ }
+    ensures { λ r. ⌜ 0 < r .length ⌝ }
     ensures { λ r. ⌜ r .length ≤ length (now (rest .entry)) ⌝ }
 {
-    let entry = head::entry(rest);
-    let start = 38 + head::source_length(rest);
-    let end = start + head::written_length(rest);
+    let a = head::request(rest);
+    let h = head::read(rest);
+    let start = 38 + h.source;
+    let end = start + h.written;
     if rest.len() < end {
         return Turn {
-            entry: entry,
+            entry: a.entry,
             equal: false,
-            length: 0,
+            length: rest.len(),
         };
     }
-    let equal = repeated(rest, &rest[38..start], &rest[start..end]);
+    let equal = repeated(a, h, &rest[38..start], &rest[start..end]);
     Turn {
-        entry: entry,
-        equal: equal,
+        entry: a.entry,
+        equal: equal & (a.entry < 34),
         length: end,
     }
 }
 
-// Says of each entry how many were equal.
-fn sums(equal: [u64; 34]) {
-    for entry in 0..34 {
-        say::name(entry);
-        say::equal(equal[entry]);
+// One more for a record that came out equal; one that did not is named.
+fn told(r: Turn, at: usize, equal: u64) -> u64 {
+    if r.equal {
+        return std::num::wrapping_add_u64(equal, 1);
     }
-}
-
-// 1 for a record that came out equal; one that did not is said.
-fn told(equal: bool, entry: usize, number: u64) -> u64 {
-    if equal {
-        return 1;
-    }
-    say::name(entry);
-    say::differs(number);
-    0
+    say::differs(r.entry, at);
+    equal
 }
 
 fn all(list: &[u8]) {
-    let mut equal = [0u64; 34];
+    let mut equal: u64 = 0;
     let mut at: usize = 0;
-    for number in 1..100000 {
-        if list.len() <= at {
-            sums(equal);
-            return;
-        }
+    while at < list.len() {
         let r = record(&list[at..]);
-        let entry = r.entry as usize;
-        if r.length == 0 {
-            say::cut(number);
-            return;
-        }
-        if 33 < entry {
-            say::cut(number);
-            return;
-        }
-        equal[entry] = std::num::wrapping_add_u64(equal[entry], told(r.equal, entry, number));
+        equal = told(r, at, equal);
         at += r.length;
     }
+    say::equal(equal);
+}
+
+fn list_room() -> [u8; 393216]
+    ensures { λ r. ⌜ length r ≡ 393216 ⌝ }
+{
+    [0u8; 393216]
 }
 
 fn main() {
-    let mut list = [0u8; 393216];
+    let mut list = list_room();
     let n = io::read_full(0, &mut list);
     all(&list[..n]);
 }

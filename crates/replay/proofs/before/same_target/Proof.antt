@@ -4,25 +4,22 @@ use Rattle.replay.proofs.before.same_target.Statement.{statement}
 use Rattle.replay.proofs.before.same_target.Tie as tie
 
 abbrev Inv-loop : tie.InvT-loop
-Inv-loop seed lent source written target x₀ same₀ i₀ i-end x same i = Unit {0}
+Inv-loop written n before after same₀ i₀ same i = Unit {0}
 
 abbrev μ-loop : tie.MeasureT-loop
-μ-loop seed lent source written target x₀ same₀ i₀ i-end x same i = i-end - i
+μ-loop written n before after same₀ i₀ same i = n - i
 
 loop-holds : tie.Need-loop-holds Inv-loop μ-loop
 loop-holds c = search needs
 
-shared-slice-read-same : tie.Need-shared-slice-read-same Inv-loop μ-loop
-shared-slice-read-same c = search needs
+array-read-same : tie.Need-array-read-same Inv-loop μ-loop
+array-read-same c = search needs
 
-was-requires : tie.Need-was-requires Inv-loop μ-loop
-was-requires c κs = search needs
+array-read-first-of : tie.Need-array-read-first-of Inv-loop μ-loop
+array-read-first-of c = search needs
 
-after-requires : tie.Need-after-requires Inv-loop μ-loop
-after-requires c κs = search needs
-
-next-entry-requires : tie.Need-next-entry-requires Inv-loop μ-loop
-next-entry-requires c κs = search needs
+first-of-requires : tie.Need-first-of-requires Inv-loop μ-loop
+first-of-requires c κs = search needs
 
 add-i : tie.Need-add-i Inv-loop μ-loop
 add-i c = search needs
@@ -43,10 +40,9 @@ same-target-spec =
     Inv-loop
     μ-loop
     loop-holds
-    shared-slice-read-same
-    was-requires
-    after-requires
-    next-entry-requires
+    array-read-same
+    array-read-first-of
+    first-of-requires
     add-i
     loop-less
     loop-again

@@ -4,25 +4,19 @@ use Rattle.replay.proofs.before.same_trellis.Statement.{statement}
 use Rattle.replay.proofs.before.same_trellis.Tie as tie
 
 abbrev Inv-loop : tie.InvT-loop
-Inv-loop seed zeroed trellis x₀ same₀ i₀ i-end x same i = Unit {0}
+Inv-loop zeroed trellis same₀ i₀ same i = Unit {0}
 
 abbrev μ-loop : tie.MeasureT-loop
-μ-loop seed zeroed trellis x₀ same₀ i₀ i-end x same i = i-end - i
+μ-loop zeroed trellis same₀ i₀ same i = 1024 - i
 
 loop-holds : tie.Need-loop-holds Inv-loop μ-loop
 loop-holds c = search needs
 
-mul-same : tie.Need-mul-same Inv-loop μ-loop
-mul-same c = search needs
+mul-choice : tie.Need-mul-choice Inv-loop μ-loop
+mul-choice c = search needs
 
-shared-slice-read-same : tie.Need-shared-slice-read-same Inv-loop μ-loop
-shared-slice-read-same c = search needs
-
-choice-after-requires : tie.Need-choice-after-requires Inv-loop μ-loop
-choice-after-requires c κs = search needs
-
-next-choice-requires : tie.Need-next-choice-requires Inv-loop μ-loop
-next-choice-requires c κs = search needs
+array-read-choice : tie.Need-array-read-choice Inv-loop μ-loop
+array-read-choice c = search needs
 
 add-i : tie.Need-add-i Inv-loop μ-loop
 add-i c = search needs
@@ -43,10 +37,8 @@ same-trellis-spec =
     Inv-loop
     μ-loop
     loop-holds
-    mul-same
-    shared-slice-read-same
-    choice-after-requires
-    next-choice-requires
+    mul-choice
+    array-read-choice
     add-i
     loop-less
     loop-again
