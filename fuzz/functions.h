@@ -1,4 +1,4 @@
-/* The public functions for fuzz/boundary.c. Made by boundary/make. */
+/* The public functions for fuzz/boundary.c. Made by tools/boundary/make. */
 #ifndef FUNCTIONS_H
 #define FUNCTIONS_H
 

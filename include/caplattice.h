@@ -26,10 +26,10 @@ extern "C" {
 
 /* The version that this header is of: 1,000,000 times the major, 1,000 times the minor, and the patch number. caplattice_version() is that
  * of the library that was linked. */
-/* boundary/make: version */
+/* tools/boundary/make: version */
 #define CAPLATTICE_VERSION 1000
 #define CAPLATTICE_VERSION_TEXT "0.1.0"
-/* boundary/make: end */
+/* tools/boundary/make: end */
 uint32_t caplattice_version(void);
 
 /* Why a function did nothing. */
@@ -65,7 +65,7 @@ typedef struct caplattice_answer {
     uint64_t bits;          /* 0; kept for the number of symbols that were bits */
 } caplattice_answer;
 
-/* boundary/make: functions */
+/* tools/boundary/make: functions */
 
 /* ---- Check register
  *
@@ -436,7 +436,7 @@ uint8_t caplattice_encode_aach(uint32_t start, const uint8_t *source, size_t sou
  * Refuses SHORT (source), BIT (an entry of source that is used is over 1). */
 uint8_t caplattice_decode_aach(uint32_t start, const uint8_t *source, size_t source_len, caplattice_answer *answer);
 
-/* boundary/make: end */
+/* tools/boundary/make: end */
 
 #ifdef __cplusplus
 }

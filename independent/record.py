@@ -6,7 +6,7 @@ import sys
 from collections import namedtuple
 
 sys.dont_write_bytecode = True
-sys.path.insert(0, os.path.join(os.path.dirname(os.path.abspath(__file__)), "..", "boundary"))
+sys.path.insert(0, os.path.join(os.path.dirname(os.path.abspath(__file__)), "..", "tools", "boundary"))
 import table
 
 HEAD = struct.Struct(">BQQHHHBHQHH")

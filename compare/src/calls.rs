@@ -1,4 +1,4 @@
-// A request put to the function that it names. Made by boundary/make.
+// A request put to the function that it names. Made by tools/boundary/make.
 #[path = "../../rust/caplattice/src/raw.rs"]
 #[allow(dead_code)]
 mod raw;

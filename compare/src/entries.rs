@@ -1,4 +1,4 @@
-// Made by boundary/make.
+// Made by tools/boundary/make.
 pub const ENTRIES: [&str; 34] = [
     "crc16_itut_bits",
     "crc16_itut_bytes",

@@ -1,4 +1,4 @@
-// The version. Made by boundary/make from the file VERSION.
+// The version. Made by tools/boundary/make from the file VERSION.
 ghost use mathlib.Core.Path.{_≡_};
 ghost use Rattle.caplattice.specs.Version.{version};
 

@@ -1,7 +1,7 @@
 // The static library's functions as include/caplattice.h declares them, and each as a safe function: a slice goes in as its
 // pointer and its length. The library accepts every length and every value, and holds nothing after it returns; Rust's
 // borrows keep the slices of one call apart. That is all that the header asks, so no call here can go wrong.
-// Made by boundary/make.
+// Made by tools/boundary/make.
 
 /// What a call says when it returns 0. A refusal, which it returns as its number, leaves it as it was.
 #[repr(C)]

@@ -1,9 +1,9 @@
-"""Reads boundary/functions.txt, the one table of the public functions."""
+"""Reads tools/boundary/functions.txt, the one table of the public functions."""
 import re
 from collections import namedtuple
 from pathlib import Path
 
-ROOT = Path(__file__).resolve().parent.parent
+ROOT = Path(__file__).resolve().parent.parent.parent
 NUMBERS = ("u8", "u16", "u32", "usize")
 SLICES = ("&[u8]", "&mut [u8]", "&mut [u16]")
 REFUSALS = ("LIMIT", "SHORT", "ROOM", "BIT", "SHUFFLE", "WORD", "FIELD", "KIND")
@@ -39,18 +39,18 @@ def function_of(paragraph):
         elif kind:
             parameters.append(Parameter(word, kind, rest[len(kind):].strip()))
         else:
-            raise Fault(f"boundary/functions.txt: {name}: cannot read the line '{line.strip()}'")
+            raise Fault(f"tools/boundary/functions.txt: {name}: cannot read the line '{line.strip()}'")
     order = [ORDER.index(number) for number, _ in refuses or [] if number in ORDER]
     if not does or refuses is None or len(order) != len(refuses) or order != sorted(order):
-        raise Fault(f"boundary/functions.txt: {name} needs a 'does' line, and 'refuses' lines in document 01's order")
+        raise Fault(f"tools/boundary/functions.txt: {name} needs a 'does' line, and 'refuses' lines in document 01's order")
     if any(member not in MEMBERS for member, _ in says):
-        raise Fault(f"boundary/functions.txt: {name} speaks of a member that the answer does not have")
+        raise Fault(f"tools/boundary/functions.txt: {name} speaks of a member that the answer does not have")
     return Function(name, does, parameters, writes, says, refuses)
 
 
 def groups():
     found, paragraph = [], []
-    lines = (ROOT / "boundary/functions.txt").read_text().splitlines()
+    lines = (ROOT / "tools/boundary/functions.txt").read_text().splitlines()
     for line in [line for line in lines if not line.startswith("#")] + [""]:
         if line.startswith("["):
             found.append(Group(line.strip("[]"), [], []))
