@@ -3,14 +3,13 @@
 use super::before;
 use super::head::Head;
 use super::head::Numbers;
-use super::said;
 use super::shape;
 use caplattice::chains;
 use caplattice::coding;
 use caplattice::leaves;
 
-// No entry has this answer: a trellis that is not as the record says, or no room for it.
-const DIFFERENT: u64 = 10 << 32;
+// No entry has this refusal: a trellis that is not as the record says, or no room for it.
+const DIFFERENT: u8 = 255;
 
 // The source holds the mother word and then the depunctured one.
 fn comparing(n: usize, source: &[u8], said: &mut [u64; 6]) -> u8 {
@@ -20,6 +19,7 @@ fn comparing(n: usize, source: &[u8], said: &mut [u64; 6]) -> u8 {
     0
 }
 
+// Entries that are lent no target.
 fn judged(a: Numbers, source: &[u8], said: &mut [u64; 6]) -> u8 {
     let entry = a.entry;
     match entry {
@@ -34,13 +34,6 @@ fn judged(a: Numbers, source: &[u8], said: &mut [u64; 6]) -> u8 {
         22 => comparing(a.size, source, said),
         _ => chains::caplattice_decode_aach(a.word, source, said),
     }
-}
-
-// Entries that are lent no target.
-pub fn number(a: Numbers, source: &[u8]) -> u64 {
-    let mut said = [0u64; 6];
-    let refusal = judged(a, source, &mut said);
-    said::packed(refusal, said, 0)
 }
 
 // Entries that are lent a target and have nothing to say.
@@ -66,6 +59,7 @@ fn moved(a: Numbers, source: &[u8], target: &mut [u8]) -> u8 {
     }
 }
 
+// Encoders.
 fn encoding(a: Numbers, source: &[u8], target: &mut [u8], said: &mut [u64; 6]) -> u8 {
     let entry = a.entry;
     match entry {
@@ -73,13 +67,6 @@ fn encoding(a: Numbers, source: &[u8], target: &mut [u8], said: &mut [u64; 6]) -
         18 => coding::caplattice_encode_rate1_3(a.word, source, target, said),
         _ => coding::caplattice_encode_speech(a.word, source, target, said),
     }
-}
-
-// The delays of a refused encoder stay.
-fn encoded(a: Numbers, source: &[u8], target: &mut [u8]) -> u64 {
-    let mut said = [0u64; 6];
-    let refusal = encoding(a, source, target, &mut said);
-    said::packed(refusal, said, a.word as u64)
 }
 
 fn decoding(
@@ -100,26 +87,25 @@ fn decoding(
 }
 
 // Entries that are lent a target and a trellis.
-fn decoded(a: Numbers, h: Head, source: &[u8], target: &mut [u8]) -> u64 {
+fn decoded(a: Numbers, h: Head, source: &[u8], target: &mut [u8], said: &mut [u64; 6]) -> u8 {
     let m = h.trellis;
     if 1024 < m {
         return DIFFERENT;
     }
     let mut trellis = before::trellis();
-    let mut said = [0u64; 6];
-    let refusal = decoding(a, source, target, &mut trellis[..m], &mut said);
+    let refusal = decoding(a, source, target, &mut trellis[..m], said);
     if before::same_trellis(trellis, h.zeroed) {
-        return said::packed(refusal, said, 0);
+        return refusal;
     }
     DIFFERENT
 }
 
-// Entries that are lent a target.
-pub fn answer(a: Numbers, h: Head, source: &[u8], target: &mut [u8]) -> u64 {
+pub fn refusal(a: Numbers, h: Head, source: &[u8], target: &mut [u8], said: &mut [u64; 6]) -> u8 {
     let shape = shape::shape(a.entry);
     match shape {
-        b'e' => encoded(a, source, target),
-        b'r' => decoded(a, h, source, target),
-        _ => said::refused(moved(a, source, target), 0),
+        b'n' => judged(a, source, said),
+        b'e' => encoding(a, source, target, said),
+        b'r' => decoded(a, h, source, target, said),
+        _ => moved(a, source, target),
     }
 }

@@ -34,8 +34,12 @@ fn target_length(lent: usize, said: usize) -> usize {
     if lent == 0 { said } else { lent }
 }
 
+fn same_answer(a: Numbers, h: Head, refusal: u8, said: [u64; 6]) -> bool {
+    said::packed(refusal, said, said::delays(shape::shape(a.entry), a.word)) == h.answer
+}
+
 // Whether the entry answers as the record says and leaves the target that the record says.
-fn moved(a: Numbers, h: Head, source: &[u8], written: &[u8]) -> bool {
+fn repeated(a: Numbers, h: Head, source: &[u8], written: &[u8]) -> bool {
     let k = lent(a.entry, source.len());
     let n = target_length(k, h.target);
     if 65536 < n {
@@ -43,15 +47,9 @@ fn moved(a: Numbers, h: Head, source: &[u8], written: &[u8]) -> bool {
     }
     let before = before::target(h.seed, &source[..k], n);
     let mut target = before;
-    let answer = asked::answer(a, h, source, &mut target[..n]);
-    (answer == h.answer) & before::same_target(before, written, target, n)
-}
-
-fn repeated(a: Numbers, h: Head, source: &[u8], written: &[u8]) -> bool {
-    if shape::shape(a.entry) == b'n' {
-        return asked::number(a, source) == h.answer;
-    }
-    moved(a, h, source, written)
+    let mut said = [0u64; 6];
+    let refusal = asked::refusal(a, h, source, &mut target[..n], &mut said);
+    same_answer(a, h, refusal, said) & before::same_target(before, written, target, n)
 }
 
 // The first record of what is left of the list. One that is cut does not count as equal, and nothing is left after it.

@@ -22,9 +22,6 @@ decoding-requires c κs = search needs
 same-trellis-requires : tie.Need-same-trellis-requires
 same-trellis-requires c κs = search needs
 
-packed-requires : tie.Need-packed-requires
-packed-requires c κs = search needs
-
 same-length : tie.Need-same-length
 same-length c = search needs
 
@@ -47,7 +44,6 @@ decoded-spec =
     slice-aggregate-decoding
     decoding-requires
     same-trellis-requires
-    packed-requires
     same-length
     returns-2
     same-length-2

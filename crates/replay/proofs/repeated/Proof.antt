@@ -1,8 +1,8 @@
 use mathlib.Core.Path.{sym}
 use lib.Seq.{length-take-le}
 use borrow.Author.Needs.{needs}
-use Rattle.replay.proofs.moved.Statement.{statement}
-use Rattle.replay.proofs.moved.Tie as tie
+use Rattle.replay.proofs.repeated.Statement.{statement}
+use Rattle.replay.proofs.repeated.Tie as tie
 
 lent-requires : tie.Need-lent-requires
 lent-requires c κs = search needs
@@ -22,11 +22,14 @@ target-requires c κs = search needs
 array-borrow-prefix-target : tie.Need-array-borrow-prefix-target
 array-borrow-prefix-target c = search needs
 
-slice-aggregate-answer : tie.Need-slice-aggregate-answer
-slice-aggregate-answer c = sym (length-take-le _ _ (search needs))
+slice-aggregate-refusal : tie.Need-slice-aggregate-refusal
+slice-aggregate-refusal c = sym (length-take-le _ _ (search needs))
 
-answer-requires : tie.Need-answer-requires
-answer-requires c κs = search needs
+refusal-requires : tie.Need-refusal-requires
+refusal-requires c κs = search needs
+
+same-answer-requires : tie.Need-same-answer-requires
+same-answer-requires c κs = search needs
 
 same-target-requires : tie.Need-same-target-requires
 same-target-requires c κs = search needs
@@ -34,8 +37,8 @@ same-target-requires c κs = search needs
 returns-2 : tie.Need-returns-2
 returns-2 c = search needs
 
-pub moved-spec : {M : Type 1} → statement M
-moved-spec =
+pub repeated-spec : {M : Type 1} → statement M
+repeated-spec =
     tie.close
     (tie.spec
     lent-requires
@@ -44,7 +47,8 @@ moved-spec =
     slice-aggregate-target
     target-requires
     array-borrow-prefix-target
-    slice-aggregate-answer
-    answer-requires
+    slice-aggregate-refusal
+    refusal-requires
+    same-answer-requires
     same-target-requires
     returns-2)
