@@ -59,7 +59,7 @@ fn moved(a: Numbers, source: &[u8], target: &mut [u8]) -> u8 {
     }
 }
 
-// Encoders.
+// The encoders.
 fn encoding(a: Numbers, source: &[u8], target: &mut [u8], said: &mut [u64; 6]) -> u8 {
     let entry = a.entry;
     match entry {
@@ -100,6 +100,7 @@ fn decoded(a: Numbers, h: Head, source: &[u8], target: &mut [u8], said: &mut [u6
     DIFFERENT
 }
 
+// The number of the refusal, or 0; the rest of the answer goes into said.
 pub fn refusal(a: Numbers, h: Head, source: &[u8], target: &mut [u8], said: &mut [u64; 6]) -> u8 {
     let shape = shape::shape(a.entry);
     match shape {

@@ -36,7 +36,8 @@ pub fn same_target(before: [u8; 65536], written: &[u8], after: [u8; 65536], n: u
     same
 }
 
-// Every entry is 1 before a request; the length is all that lending the array needs.
+// Every entry is 1 before a request, because what a trellis holds then does not matter to an entry and 1 shows what was not cleared.
+// The length is all that lending the array needs.
 pub fn trellis() -> [u16; 1024]
     ensures { λ r. ⌜ length r ≡ 1024 ⌝ }
 {

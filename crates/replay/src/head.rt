@@ -14,6 +14,7 @@ pub struct Numbers {
     pub third: u8,
 }
 
+// How long the slices are, what fills the target, and the answer.
 pub struct Head {
     pub source: usize,
     pub target: usize,

@@ -34,6 +34,7 @@ fn target_length(lent: usize, said: usize) -> usize {
     if lent == 0 { said } else { lent }
 }
 
+// Whether a call's answer is the record's.
 fn same_answer(a: Numbers, h: Head, refusal: u8, said: [u64; 6]) -> bool {
     said::packed(refusal, said, said::delays(shape::shape(a.entry), a.word)) == h.answer
 }
