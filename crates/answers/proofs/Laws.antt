@@ -12,7 +12,7 @@ use Rattle.base.specs.declared.Received.{Received}
 use Rattle.records.specs.Kinds.{symbolsOf}
 use Rattle.rm3014.specs.declared.Judged.{Judged}
 use Rattle.errorcontrol_aach.specs.Receiving as access
-use Rattle.answers.specs.Chains.{controlAnswer, speechAnswer}
+use Rattle.answers.specs.private.Chains.{controlAnswer, speechAnswer}
 use Rattle.answers.specs.Answering.{startOf, ofReceived, ofJudged, chainOf, answerOf}
 use Rattle.answers.specs.declared.Answer.{Answer}
 use Rattle.answers.specs.declared.Answer.the-variants.{Refused}
@@ -29,17 +29,17 @@ module _ (kind start : ℕ) (air : List ℕ) where
   chain-access k e f = f ∙ ap ofJudged e ∙ simp (eq-eqb kind 5 k)
 
   pub chain-slot : {j : Received} {a : Answer} → kind ≡ 6 → j ≡ speechAnswer 432 start air → a ≡ ofReceived j → a ≡ chainOf kind start air
-  unfolding chainOf
+  unfolding chainOf speechAnswer
   chain-slot k e f = f ∙ ap ofReceived e ∙ simp (ne-eqb kind 5 (λ w. omega arith), eq-eqb kind 6 k)
 
   pub chain-half : {j : Received} {a : Answer} → kind ≡ 7 → j ≡ speechAnswer 216 start air → a ≡ ofReceived j → a ≡ chainOf kind start air
-  unfolding chainOf
+  unfolding chainOf speechAnswer
   chain-half k e f = f ∙ ap ofReceived e ∙ simp (ne-eqb kind 5 (λ w. omega arith), ne-eqb kind 6 (λ w. omega arith), eq-eqb kind 7 k)
 
   pub chain-control :
       {j : Received} {a : Answer} → (kind ≡ 5 → ⊥) → (kind ≡ 6 → ⊥) → (kind ≡ 7 → ⊥) → j ≡ controlAnswer kind start air → a ≡ ofReceived j
       → a ≡ chainOf kind start air
-  unfolding chainOf
+  unfolding chainOf controlAnswer
   chain-control p q r e f = f ∙ ap ofReceived e ∙ simp (ne-eqb kind 5 p, ne-eqb kind 6 q, ne-eqb kind 7 r)
 
 module _ (kind : ℕ) (body : List ℕ) where

@@ -17,7 +17,7 @@ use Rattle.errorcontrol_aach.specs.Receiving.{verdictFrom}
 use Rattle.errorcontrol_cp.specs.Kinds.{isKind, wordBits, airSymbols}
 use Rattle.errorcontrol_cp.specs.Receiving as control
 use Rattle.errorcontrol_tp.specs.Receiving as speech
-use Rattle.answers.specs.Chains.{controlAnswer, speechAnswer}
+use Rattle.answers.specs.private.Chains.{controlAnswer, speechAnswer}
 use Rattle.answers.specs.Answering.{ofReceived, ofJudged, startOf, chainOf, answerOf}
 use Rattle.answers.specs.declared.Answer.the-variants.{Refused}
 

@@ -12,7 +12,8 @@ use Rattle.records.specs.Recording.{pick}
 use Rattle.rm3014.specs.declared.Judged.{Judged}
 use Rattle.rm3014.specs.declared.Judged.the-variants as judged
 use Rattle.errorcontrol_aach.specs.Receiving as access
-use Rattle.answers.specs.Chains.{controlAnswer, speechAnswer}
+use Rattle.errorcontrol_cp.specs.Receiving as control
+use Rattle.errorcontrol_tp.specs.Receiving as speech
 use Rattle.answers.specs.declared.Answer.{Answer}
 use Rattle.answers.specs.declared.Answer.the-variants.{Good, Bad, Aach, Refused}
 
@@ -31,12 +32,13 @@ abbrev pub ofJudged : Judged → Answer
 ofJudged (judged.Is verdict) = Aach verdict
 ofJudged (judged.Refused number) = Refused number
 
--- the chain of a known kind: 05 is AACH, 06 a whole speech slot, 07 its second half, and the others are control
+-- the chain of a known kind: 05 is AACH, 06 a whole speech slot, 07 its second half, and the others are control.
+-- The work space is always enough: no control word is longer than 288 bits, and a slot has 274 codec bits and 184 steps
 unfoldable pub chainOf : ℕ → ℕ → List ℕ → Answer
 chainOf kind start air =
     pick (eqb kind 5) (ofJudged (access.answerOf start air))
-    (pick (eqb kind 6) (ofReceived (speechAnswer 432 start air))
-    (pick (eqb kind 7) (ofReceived (speechAnswer 216 start air)) (ofReceived (controlAnswer kind start air))))
+    (pick (eqb kind 6) (ofReceived (speech.answerOf 432 start air 274 184))
+    (pick (eqb kind 7) (ofReceived (speech.answerOf 216 start air 274 184)) (ofReceived (control.answerOf kind start air 288 288))))
 
 -- the answer to a record of the kind with the body: KIND where the kind is not known, SHORT where the start is not there, and otherwise its chain's
 unfoldable pub answerOf : ℕ → List ℕ → Answer

@@ -4,7 +4,7 @@
 ghost use mathlib.Core.Path.{_≡_};
 ghost use Prim.Native.Nat.{_≤_, _<_};
 ghost use lib.ListN.{length, getD};
-ghost use Rattle.answers.specs.Chains.{controlAnswer, speechAnswer};
+ghost use Rattle.answers.specs.private.Chains.{controlAnswer, speechAnswer};
 ghost use Rattle.answers.specs.Answering.{startOf, ofReceived, ofJudged, chainOf, answerOf};
 use base::Counts;
 use base::KIND;

@@ -3,9 +3,8 @@
 use mathlib.Core.List.{List}
 use mathlib.Core.Bool.{not}
 use Prim.Native.Nat.{ℕ}
-use lib.Dec.{ltb}
 use lib.ListN.{length, take}
-use Rattle.base.specs.Refusal.{SHORT, ROOM, BIT, accepted, when}
+use Rattle.base.specs.Refusal.{BIT, accepted, when, sized}
 use Rattle.base.specs.Bits.{bitsOnly}
 use Rattle.base.specs.Digits.{digits, number}
 use Rattle.scrambler.specs.Scrambling.{scrambled}
@@ -17,4 +16,4 @@ sent start bits = scrambled start (digits 30 (codeWord (number (take 14 bits))))
 
 -- SHORT below 14 data entries, ROOM below 30 target entries, BIT where one of the 14 is no bit
 abbrev pub sendRefusal : List ℕ → ℕ → ℕ
-sendRefusal bits air = when (ltb (length bits) 14) SHORT (when (ltb air 30) ROOM (when (not (bitsOnly 14 bits)) BIT accepted))
+sendRefusal bits air = sized (length bits) 14 air 30 (when (not (bitsOnly 14 bits)) BIT accepted)

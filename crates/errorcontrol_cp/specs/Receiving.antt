@@ -7,7 +7,7 @@ use lib.Dec.{ltb, eqb}
 use lib.ListN.{length, take, replicate}
 use Rattle.base.specs.declared.Counts.{Counts}
 use Rattle.base.specs.declared.Received.{Received}
-use Rattle.base.specs.Refusal.{SHORT, ROOM, KIND, accepted, when, reception}
+use Rattle.base.specs.Refusal.{ROOM, KIND, accepted, when, sized, reception}
 use Rattle.base.specs.Bits.{ERASED}
 use Rattle.crc16.specs.Crc.{register, OK}
 use Rattle.convenc.specs.Generators.{control}
@@ -42,7 +42,7 @@ good kind w = eqb (register 0xffff (take (dataBits kind + 16) w)) OK
 abbrev pub receiveRefusal : ℕ → ℕ → ℕ → ℕ → ℕ
 receiveRefusal kind air word trellis =
     when (not (isKind kind)) KIND
-    (when (ltb air (airSymbols kind)) SHORT (when (ltb word (wordBits kind)) ROOM (when (ltb trellis (wordBits kind)) ROOM accepted)))
+    (sized air (airSymbols kind) word (wordBits kind) (when (ltb trellis (wordBits kind)) ROOM accepted))
 
 -- what `decode_cp` answers, where its target and its trellis have so many entries
 abbrev pub answerOf : ℕ → ℕ → List ℕ → ℕ → ℕ → Received

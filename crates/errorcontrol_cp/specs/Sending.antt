@@ -3,10 +3,9 @@
 use mathlib.Core.List.{List, [], _∷_, _++_}
 use mathlib.Core.Bool.{not}
 use Prim.Native.Nat.{ℕ}
-use lib.Dec.{ltb}
 use lib.ListN.{length, take, replicate}
 use Rattle.base.specs.declared.Outcome.{Outcome}
-use Rattle.base.specs.Refusal.{SHORT, ROOM, BIT, KIND, accepted, when}
+use Rattle.base.specs.Refusal.{BIT, KIND, accepted, when, sized}
 use Rattle.base.specs.Bits.{bitsOnly}
 use Rattle.trellis.specs.Nearest.{encode}
 use Rattle.crc16.specs.Crc.{check}
@@ -32,8 +31,7 @@ sent kind start w = scrambled start (interleaved (airSymbols kind) (interleaverS
 abbrev pub sendRefusal : ℕ → List ℕ → ℕ → ℕ
 sendRefusal kind block air =
     when (not (isKind kind)) KIND
-    (when (ltb (length block) (dataBits kind)) SHORT
-    (when (ltb air (airSymbols kind)) ROOM (when (not (bitsOnly (dataBits kind) block)) BIT accepted)))
+    (sized (length block) (dataBits kind) air (airSymbols kind) (when (not (bitsOnly (dataBits kind) block)) BIT accepted))
 
 -- what `encode_cp` answers and leaves in its target
 abbrev pub Sends : ℕ → ℕ → List ℕ → List ℕ → Outcome → List ℕ → Type 0

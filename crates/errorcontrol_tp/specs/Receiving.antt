@@ -8,7 +8,7 @@ use lib.Dec.{ltb, eqb}
 use lib.ListN.{length, take, drop, replicate}
 use Rattle.base.specs.declared.Counts.{Counts}
 use Rattle.base.specs.declared.Received.{Received}
-use Rattle.base.specs.Refusal.{SHORT, ROOM, accepted, when, reception}
+use Rattle.base.specs.Refusal.{ROOM, accepted, when, sized, reception}
 use Rattle.base.specs.Bits.{both, ERASED}
 use Rattle.convenc.specs.Generators.{speech}
 use Rattle.puncturing.specs.Puncturing.{depunctured}
@@ -54,7 +54,7 @@ codecBits count start air w = codecOf (map readBit (take 102 (blockOf start (slo
 
 -- START comes last in document 01's order and is never given: the walk back always ends in state 0
 abbrev pub receiveRefusal : ℕ → ℕ → ℕ → ℕ → ℕ
-receiveRefusal count air codec trellis = when (ltb air count) SHORT (when (ltb codec 274) ROOM (when (ltb trellis 184) ROOM accepted))
+receiveRefusal count air codec trellis = sized air count codec 274 (when (ltb trellis 184) ROOM accepted)
 
 -- what `decode_tp` answers for 432 symbols and `decode_tp_half` for 216, where target and trellis have so many entries
 abbrev pub answerOf : ℕ → ℕ → List ℕ → ℕ → ℕ → Received

@@ -3,10 +3,9 @@
 use mathlib.Core.List.{List, _++_}
 use mathlib.Core.Bool.{not}
 use Prim.Native.Nat.{ℕ, _-_}
-use lib.Dec.{ltb}
 use lib.ListN.{length, take, drop, replicate}
 use Rattle.base.specs.declared.Outcome.{Outcome}
-use Rattle.base.specs.Refusal.{SHORT, ROOM, BIT, accepted, when}
+use Rattle.base.specs.Refusal.{BIT, accepted, when, sized}
 use Rattle.base.specs.Bits.{bitsOnly}
 use Rattle.trellis.specs.Nearest.{encode}
 use Rattle.convenc.specs.Generators.{outputs, speech}
@@ -36,8 +35,7 @@ unfoldable pub slot : ℕ → List ℕ → List ℕ
 slot start codec = onAir start (take 102 (channelOf codec) ++ coded (wordOf (channelOf codec)))
 
 abbrev pub sendRefusal : ℕ → List ℕ → ℕ → ℕ
-sendRefusal count codec air =
-    when (ltb (length codec) 274) SHORT (when (ltb air count) ROOM (when (not (bitsOnly 274 codec)) BIT accepted))
+sendRefusal count codec air = sized (length codec) 274 air count (when (not (bitsOnly 274 codec)) BIT accepted)
 
 -- what `encode_tp` answers and leaves in its target for 432 symbols, and `encode_tp_half` for the last 216: entries 217 to 432
 abbrev pub Sends : ℕ → ℕ → List ℕ → List ℕ → Outcome → List ℕ → Type 0

@@ -6,7 +6,7 @@ use Prim.Native.Nat.{ℕ, _*_}
 use lib.Dec.{ltb}
 use lib.ListN.{length, take, drop, replicate}
 use Rattle.base.specs.declared.Valued.{Valued}
-use Rattle.base.specs.Refusal.{LIMIT, SHORT, ROOM, accepted, when, unless, valued}
+use Rattle.base.specs.Refusal.{LIMIT, ROOM, accepted, when, sized, unless, valued}
 use Rattle.base.specs.Bits.{disagrees, known}
 use Rattle.base.specs.Places.{written}
 use Rattle.trellis.specs.Nearest.{encode, distance, total, nearest}
@@ -30,8 +30,7 @@ unerased code n src = total known (used code n src)
 
 -- START comes last in document 01's order and stands in no chain here: the walk back always ends in state 0, so it is never given
 abbrev pub decodeRefusal : List (List ℕ) → ℕ → ℕ → ℕ → ℕ → ℕ
-decodeRefusal code n src trellis dst =
-    when (ltb 864 n) LIMIT (when (ltb src (length code * n)) SHORT (when (ltb trellis n) ROOM (when (ltb dst n) ROOM accepted)))
+decodeRefusal code n src trellis dst = when (ltb 864 n) LIMIT (sized src (length code * n) trellis n (when (ltb dst n) ROOM accepted))
 
 -- the first n entries 0; the rest stays
 abbrev pub cleared : ℕ → List ℕ → List ℕ

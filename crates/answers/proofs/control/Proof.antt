@@ -1,5 +1,5 @@
 -- The control chain, with room for the longest word.
-use Rattle.answers.specs.Chains.{controlAnswer}
+use Rattle.answers.specs.private.Chains.{controlAnswer}
 use borrow.Author.Needs.{needs}
 use Rattle.answers.proofs.control.Statement.{statement}
 use Rattle.answers.proofs.control.Tie as tie
