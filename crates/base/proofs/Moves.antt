@@ -10,7 +10,8 @@ use lib.Dec.{eqb, ltb}
 use borrow.Author.Tests.{eqb-true, eqb-false, ltb-true, ltb-false}
 use lib.ListN.{length, take, drop, getD, set, replicate, length-replicate, length-set, length-drop, length-append, List·getD-append}
 use lib.Seq.{ext-getD, set-comm, getD-set-same, getD-set-other, getD-take, length-take-le, getD-drop, getD-append-add}
-use Rattle.base.specs.Places.{written, gather, scatter, Apart, Within}
+use Rattle.base.specs.Places.{written, gather, scatter, Apart}
+use Rattle.base.specs.private.Places.{Within}
 use Rattle.base.proofs.Lists.{tabulate-length, tabulate-at, tabulate-same, tabulate-of}
 
 pub gather-length : (place : ℕ → ℕ) (n : ℕ) (src : List ℕ) → length (gather place n src) ≡ n

@@ -26,7 +26,3 @@ scatter place (suc n) src dst = set (scatter place n src dst) (place n) (getD sr
 -- no two of the first n places are the same
 abbrev pub Apart : (ℕ → ℕ) → ℕ → Type 0
 Apart place n = (i j : ℕ) → i < n → j < n → place i ≡ place j → i ≡ j
-
--- the first n places lie below m
-abbrev pub Within : (ℕ → ℕ) → ℕ → ℕ → Type 0
-Within place n m = (i : ℕ) → i < n → place i < m

@@ -8,7 +8,7 @@ use Rattle.base.specs.declared.Outcome.{Outcome}
 use Rattle.base.specs.Refusal.{outcome}
 use Rattle.base.specs.declared.Outcome.the-variants.{Refused}
 use Rattle.caplattice.specs.Promises.{Tells, Answers}
-use Rattle.caplattice.specs.Telling.{Fair}
+use Rattle.caplattice.specs.private.Telling.{Fair}
 
 -- the same by another name
 pub told-as : {x y : ℕ × List ℕ} {r : ℕ} {after : List ℕ} → x ≡ y → Tells x r after → Tells y r after

@@ -1,4 +1,4 @@
 pub mod Answer
 pub mod Promises
-pub mod Telling
 pub mod Version
+pub mod private

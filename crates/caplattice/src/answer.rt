@@ -6,7 +6,7 @@ ghost use Rattle.base.specs.Refusal.{outcome};
 ghost use Rattle.rm3014.specs.declared.Judged.the-variants.{Is};
 ghost use Rattle.caplattice.specs.Answer.{saying, valuedReport, receivedReport, judgedReport, comparedReport, encodedReport, delaysNumber, delaysIn};
 ghost use Rattle.caplattice.specs.Promises.{Tells};
-ghost use Rattle.caplattice.specs.Telling.{Fair};
+ghost use Rattle.caplattice.specs.private.Telling.{Fair};
 use base::Outcome;
 use base::Received;
 use base::Valued;

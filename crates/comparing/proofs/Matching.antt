@@ -15,7 +15,7 @@ use Rattle.base.specs.Bits.{ERASED}
 use Rattle.comparing.specs.Comparing.{oneMore, pick, compare}
 use Rattle.comparing.specs.declared.Compared.{Compared}
 use Rattle.comparing.specs.declared.Compared.the-variants.{Matched, Differs}
-use Rattle.comparing.specs.Gathering.{unless-erased, unlike, counts, difference, unerased, differing}
+use Rattle.comparing.specs.private.Gathering.{unless-erased, unlike, counts, difference, unerased, differing}
 
 -- so many matches before
 abbrev pub plus : ℕ → Compared → Compared

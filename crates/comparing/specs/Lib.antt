@@ -1,2 +1,2 @@
 pub mod Comparing
-pub mod Gathering
+pub mod private

@@ -5,8 +5,7 @@ ghost use mathlib.Core.Path.{_≡_};
 ghost use Prim.Native.Nat.{_≤_, min};
 ghost use lib.ListN.{length, take};
 ghost use Rattle.comparing.specs.Comparing.{compare};
-ghost use Rattle.comparing.specs.Gathering.{counts, difference, unerased, differing};
-
+ghost use Rattle.comparing.specs.private.Gathering.{counts, difference, unerased, differing};
 // How many entries matched, or that some entry differs.
 pub enum Compared {
     Matched(usize),

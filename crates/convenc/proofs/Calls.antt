@@ -15,7 +15,8 @@ use Rattle.base.specs.Places.{written}
 use Rattle.base.proofs.BitLaws.{bits-only-yes, bits-only-bits}
 use Rattle.trellis.specs.Nearest.{encode}
 use Rattle.base.specs.Digits.{number}
-use Rattle.convenc.specs.Generators.{speech, outputs, delays, encodeRefusal, Encoded, InTurn}
+use Rattle.convenc.specs.Generators.{speech, outputs, delays, encodeRefusal, Encoded}
+use Rattle.convenc.specs.private.Generators.{InTurn}
 use Rattle.convenc.proofs.Delays.{Four, four-bits, four-after, held-after}
 use Rattle.trellis.proofs.Encoding.{encode-append}
 use Rattle.convenc.proofs.Refusing.{accepts, refuses-none}

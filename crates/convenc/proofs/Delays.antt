@@ -12,10 +12,10 @@ use lib.Seq.{take-all, take-take, take-suc, take-length}
 use borrow.Author.Tests.{ltb-true, ltb-false}
 use Rattle.base.specs.Bits.{Bits, bitsOnly}
 use Rattle.base.proofs.BitLaws.{bits-at, bits-only-bits}
-use Rattle.trellis.specs.Nearest.{after}
+use Rattle.trellis.specs.private.Nearest.{after}
 use Rattle.base.specs.Digits.{number}
 use Rattle.convenc.specs.Generators.{delays}
-use Rattle.convenc.specs.Tapping.{newest}
+use Rattle.convenc.specs.private.Tapping.{newest}
 
 -- four delays that are bits
 pub record Four (d : List ℕ) : Type 0 where

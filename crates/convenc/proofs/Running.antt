@@ -17,10 +17,11 @@ use Rattle.base.proofs.Lists.{written-length}
 use Rattle.base.proofs.BitLaws.{bits-at, bits-only-bits, bits-only-yes}
 use Rattle.base.specs.Refusal.{accepted}
 use Rattle.base.specs.declared.Outcome.the-variants.{Done}
-use Rattle.trellis.specs.Nearest.{encode, after}
+use Rattle.trellis.specs.Nearest.{encode}
+use Rattle.trellis.specs.private.Nearest.{after}
 use Rattle.base.specs.Digits.{number}
 use Rattle.convenc.specs.Generators.{outputs, delays, encodeRefusal, Encoded}
-use Rattle.convenc.specs.Tapping.{taps, newest, GoesOn}
+use Rattle.convenc.specs.private.Tapping.{taps, newest, GoesOn}
 use Rattle.trellis.proofs.Encoding.{encode-append}
 use Rattle.convenc.proofs.Encoding.{encoded-length, outputs-length}
 use Rattle.convenc.proofs.Delays.{Four, four-bits, delays-none, delays-append, four-after, held-after, newest-front, newest-more}

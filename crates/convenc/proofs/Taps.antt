@@ -15,7 +15,7 @@ use Rattle.base.proofs.Xor.{xor-bit}
 use Rattle.base.proofs.BitLaws.{bits-at, bits-only-bits}
 use Rattle.base.proofs.Table.{both-left, both-right}
 use Rattle.convenc.specs.Generators.{tapped, outputs}
-use Rattle.convenc.specs.Tapping.{generators, xors, picks, taps}
+use Rattle.convenc.specs.private.Tapping.{generators, xors, picks, taps}
 use Rattle.convenc.specs.declared.Code.{Code}
 use Rattle.convenc.specs.declared.Code.the-variants as codes
 use Rattle.convenc.proofs.Delays.{Four, four}

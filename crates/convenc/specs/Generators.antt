@@ -11,7 +11,7 @@ use Rattle.base.specs.Refusal.{LIMIT, ROOM, BIT, accepted, when, unless, outcom
 use Rattle.base.specs.Places.{written}
 use Rattle.base.specs.Bits.{bitsOnly}
 use Rattle.base.specs.Digits.{digits, number, dot}
-use Rattle.trellis.specs.Nearest.{encode, after}
+use Rattle.trellis.specs.Nearest.{encode}
 
 -- a generator is the list of its coefficients, of D^0 to D^4
 abbrev pub control : List (List ℕ)
@@ -54,9 +54,3 @@ pub record Encoded (code : List (List ℕ)) (delayed src dst : List ℕ) (answer
   pub answered : answer ≡ outcome (encodeRefusal (length code) delayed src (length dst))
   pub target : dst′ ≡ unless (encodeRefusal (length code) delayed src (length dst)) (written (encode (outputs code) (number delayed) src) dst) dst
   pub state : delayed′ ≡ unless (encodeRefusal (length code) delayed src (length dst)) (delays delayed src) delayed
-
--- what one new speech encoder leaves in two targets when it is lent to two calls in a row
-pub record InTurn (first second x x′ y y′ : List ℕ) : Type 0 where
-  pub before : x′ ≡ written (encode (outputs speech) 0 first) x
-  -- the second call goes on from the last bits of the first
-  pub beyond : y′ ≡ written (encode (outputs speech) (after 0 first) second) y

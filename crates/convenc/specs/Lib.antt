@@ -1,2 +1,2 @@
 pub mod Generators
-pub mod Tapping
+pub mod private

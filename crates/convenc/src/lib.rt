@@ -12,7 +12,7 @@ ghost use Rattle.base.specs.Places.{written};
 ghost use Rattle.trellis.specs.Nearest.{encode};
 ghost use Rattle.base.specs.Digits.{number};
 ghost use Rattle.convenc.specs.Generators.{control, controlThird, speech, outputs, delays, encodeRefusal, Encoded};
-ghost use Rattle.convenc.specs.Tapping.{generators, taps, newest, GoesOn};
+ghost use Rattle.convenc.specs.private.Tapping.{generators, taps, newest, GoesOn};
 use base::BIT;
 use base::LIMIT;
 use base::Outcome;

@@ -3,7 +3,8 @@
 use mathlib.Core.Path.{_≡_, refl}
 use Rattle.base.specs.Digits.{digits}
 use Rattle.base.specs.Places.{tabulate}
-use Rattle.scrambler.specs.Scrambling.{newBit, next, nexts, output}
+use Rattle.scrambler.specs.Scrambling.{newBit, next, output}
+use Rattle.scrambler.specs.private.Scrambling.{nexts}
 use Rattle.rm3014.specs.Code.{table, columns, syndrome, placeOf}
 use Rattle.rm3014.specs.declared.Judged.the-variants.{Is}
 use Rattle.rm3014.specs.declared.Verdict.the-variants.{Mended}

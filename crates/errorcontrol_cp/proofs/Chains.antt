@@ -30,7 +30,8 @@ use Rattle.viterbi.specs.Decoding.{decoded, disagreements, cleared, Decodes}
 use Rattle.stages.proofs.Calls.{whole, front}
 use Rattle.stages.proofs.Decoding.{word-written, trellis-cleared, count-is}
 use Rattle.stages.proofs.Entries.{receives-done}
-use Rattle.errorcontrol_cp.specs.Kinds.{isKind, dataBits, airSymbols, interleaverStep, Numbers}
+use Rattle.errorcontrol_cp.specs.Kinds.{isKind, dataBits, airSymbols, interleaverStep}
+use Rattle.errorcontrol_cp.specs.private.Kinds.{Numbers}
 use Rattle.errorcontrol_cp.specs.Sending.{wordOf, coded, sent, sendRefusal}
 use Rattle.errorcontrol_cp.specs.Receiving.{codedFrom, mother, wordFrom, countsOf, good, receiveRefusal, Receives}
 use Rattle.errorcontrol_cp.proofs.Rows.{row}

@@ -9,7 +9,8 @@ use lib.ListN.{length, take, drop, replicate, length-drop, length-replicate}
 use lib.Seq.{take-append-le, drop-append-le}
 use Rattle.base.specs.declared.Counts.{Counts}
 use Rattle.base.specs.Bits.{Bits, ERASED}
-use Rattle.base.specs.Places.{written, Within}
+use Rattle.base.specs.Places.{written}
+use Rattle.base.specs.private.Places.{Within}
 use Rattle.base.specs.declared.Received.the-variants.{Good}
 use Rattle.base.specs.Refusal.{accepted, checked}
 use Rattle.base.proofs.Moves.{Onto, scatter-length}

@@ -2,7 +2,6 @@
 -- Assumes nothing.
 use mathlib.Core.List.{List, [], _∷_}
 use mathlib.Core.Bool.{Bool}
-use mathlib.Core.Path.{_≡_}
 use Prim.Native.Nat.{ℕ, _-_}
 use lib.Dec.{ltb}
 use lib.ListN.{getD}
@@ -34,10 +33,3 @@ airSymbols kind = getD (row kind) 2 0
 
 unfoldable pub interleaverStep : ℕ → ℕ
 interleaverStep kind = getD (row kind) 3 0
-
--- d data bits, n word bits, k air symbols and a are the kind's numbers
-pub record Numbers (kind d n k a : ℕ) : Type 0 where
-  pub block : d ≡ dataBits kind
-  pub word : n ≡ wordBits kind
-  pub air : k ≡ airSymbols kind
-  pub step : a ≡ interleaverStep kind

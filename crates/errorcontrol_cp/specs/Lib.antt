@@ -2,3 +2,4 @@ pub mod Kinds
 pub mod Sending
 pub mod Receiving
 pub mod Hearing
+pub mod private

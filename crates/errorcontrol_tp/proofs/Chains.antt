@@ -13,8 +13,10 @@ use Rattle.base.specs.Places.{written}
 use Rattle.base.proofs.BitLaws.{bits-append}
 use Rattle.base.proofs.Moves.{gather-length, scatter-length, scatter-over}
 use Rattle.base.proofs.Lists.{written-whole}
-use Rattle.trellis.specs.Nearest.{encode, after}
-use Rattle.convenc.specs.Generators.{outputs, speech, encodeRefusal, InTurn}
+use Rattle.trellis.specs.Nearest.{encode}
+use Rattle.trellis.specs.private.Nearest.{after}
+use Rattle.convenc.specs.Generators.{outputs, speech, encodeRefusal}
+use Rattle.convenc.specs.private.Generators.{InTurn}
 use Rattle.puncturing.specs.Puncturing.{punctured, depunctured, keptPlace, needed, position}
 use Rattle.convenc.proofs.Calls.{encode-accepts}
 use Rattle.convenc.proofs.Encoding.{encoded-length}
@@ -36,7 +38,7 @@ use Rattle.stages.proofs.Decoding.{word-written, trellis-cleared, count-is, nev
 use Rattle.stages.proofs.Entries.{receives-done}
 use Rattle.errorcontrol_tp.specs.Sending.{wordOf, coded, onAir, slot}
 use Rattle.errorcontrol_tp.specs.Receiving.{slotOf, blockOf, motherOf, wordFrom, countsOf, good, readBit, codecBits, receiveRefusal, Receives}
-use Rattle.errorcontrol_tp.specs.Settling.{wordIn, Settles}
+use Rattle.errorcontrol_tp.specs.private.Settling.{wordIn, Settles}
 use Rattle.errorcontrol_tp.proofs.Mother.{bits-take, mother-long}
 
 -- ---- an array written in parts

@@ -10,7 +10,8 @@ use mathlib.Core.Bool.{Bool, true, false}
 use lib.ListN.{length, take, drop, replicate, getD, length-append, take-append-drop, List·getD-append}
 use lib.Seq.{length-take-le, getD-take, getD-drop, getD-append-add}
 use Rattle.base.specs.Bits.{Bits, ERASED}
-use Rattle.base.specs.Places.{Apart, Within}
+use Rattle.base.specs.Places.{Apart}
+use Rattle.base.specs.private.Places.{Within}
 use Rattle.base.proofs.Moves.{gather-length, gather-at}
 use Rattle.trellis.specs.Nearest.{encode}
 use Rattle.trellis.proofs.Words.{bits-drop}

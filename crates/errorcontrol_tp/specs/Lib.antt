@@ -1,4 +1,4 @@
 pub mod Sending
 pub mod Receiving
-pub mod Settling
 pub mod Hearing
+pub mod private

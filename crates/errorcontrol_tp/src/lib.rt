@@ -16,7 +16,7 @@ ghost use Rattle.convenc.specs.Generators.{outputs, speech};
 ghost use Rattle.puncturing.specs.Puncturing.{punctured};
 ghost use Rattle.errorcontrol_tp.specs.Sending.{sendRefusal, onAir, slot, Sends};
 ghost use Rattle.errorcontrol_tp.specs.Receiving.{receiveRefusal, blockOf, motherOf, readBit, good, Receives};
-ghost use Rattle.errorcontrol_tp.specs.Settling.{Settles};
+ghost use Rattle.errorcontrol_tp.specs.private.Settling.{Settles};
 use base::BIT;
 use base::Counts;
 use base::Outcome;

@@ -10,10 +10,11 @@ use lib.Dec.{ltb}
 use borrow.Author.Tests.{ltb-true, ltb-false, le-ltb}
 use lib.ListN.{length, take}
 use Rattle.base.specs.Refusal.{LIMIT, SHORT, ROOM, SHUFFLE, accepted, when}
-use Rattle.base.specs.Places.{written, gather, scatter, Apart, Within}
+use Rattle.base.specs.Places.{written, gather, scatter, Apart}
+use Rattle.base.specs.private.Places.{Within}
 use Rattle.base.proofs.Moves.{Onto, gather-same, scatter-same, gather-scatter, scatter-gather}
 use Rattle.interleaver.specs.Interleaving.{place, shared, blockRefusal, interleaved, deinterleaved}
-use Rattle.interleaver.specs.Walk.{onward, walk, Ready}
+use Rattle.interleaver.specs.private.Walk.{onward, walk, Ready}
 use Rattle.base.proofs.Refusals.{passed}
 use Rattle.interleaver.proofs.Divisors.{shared-by, only-one}
 use Rattle.interleaver.proofs.Inverse.{Inverse, inverse}

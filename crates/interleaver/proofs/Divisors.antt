@@ -9,7 +9,7 @@ use lib.Dec.{eqb, ltb}
 use borrow.Author.Tests.{ltb-true, ltb-false, lt-ltb, eqb-true, eqb-false, eq-eqb}
 use Rattle.base.specs.Bits.{both, either}
 use Rattle.interleaver.specs.Interleaving.{divides, sharedUpTo, shared}
-use Rattle.interleaver.specs.Divisors.{Greatest}
+use Rattle.interleaver.specs.private.Divisors.{Greatest}
 
 -- ---- Euclid's step
 pub greatest-end : (a b : ℕ) → b ≡ 0 → Greatest a b a

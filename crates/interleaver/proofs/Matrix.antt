@@ -11,11 +11,12 @@ use borrow.Author.Tests.{ltb-false}
 use lib.ListN.{length, take, drop, getD, set}
 use lib.Seq.{getD-drop}
 use Rattle.base.specs.Refusal.{LIMIT, SHORT, ROOM, accepted, when}
-use Rattle.base.specs.Places.{written, gather, scatter, Apart, Within}
+use Rattle.base.specs.Places.{written, gather, scatter, Apart}
+use Rattle.base.specs.private.Places.{Within}
 use Rattle.base.proofs.Moves.{Onto, scatter-same, scatter-join, scatter-set, scatter-back, gather-scatter, scatter-gather}
 use Rattle.base.proofs.Refusals.{passed}
 use Rattle.interleaver.specs.Interleaving.{turned, matrixRefusal, matrixInterleaved, matrixDeinterleaved}
-use Rattle.interleaver.specs.Lines.{MatrixFits, lineMoved}
+use Rattle.interleaver.specs.private.Lines.{MatrixFits, lineMoved}
 use Rattle.interleaver.proofs.Walk.{spread-more}
 
 -- ---- what no refusal says

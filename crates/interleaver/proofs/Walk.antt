@@ -9,7 +9,7 @@ use lib.ListN.{length, getD, set}
 use Rattle.base.specs.Places.{written, gather, scatter}
 use Rattle.base.proofs.Lists.{write-more}
 use Rattle.base.proofs.Moves.{scatter-more}
-use Rattle.interleaver.specs.Walk.{onward, walk}
+use Rattle.interleaver.specs.private.Walk.{onward, walk}
 
 pub walk-none : (start step count : ℕ) → start ≡ walk start step count 0
 unfolding walk

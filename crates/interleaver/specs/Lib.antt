@@ -1,4 +1,2 @@
 pub mod Interleaving
-pub mod Divisors
-pub mod Walk
-pub mod Lines
+pub mod private

@@ -12,7 +12,8 @@ use lib.Pow.{pow-lt, pow-pos, shr-shr, field, mod-mod-pow, mod-pow-add}
 use lib.Seq.{drop-cons, drop-length}
 use Rattle.base.specs.Digits.{digits, dot}
 use Rattle.base.proofs.Xor.{xor-odd, xor-assoc, xor-swap}
-use Rattle.linear.specs.Linear.{image, units}
+use Rattle.linear.specs.Linear.{image}
+use Rattle.linear.specs.private.Linear.{units}
 
 -- ---- bits
 bit-lt : (n k : ℕ) → n / 2 ^ k % 2 < 2

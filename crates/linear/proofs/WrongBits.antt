@@ -14,7 +14,8 @@ use lib.Seq.{drop-cons}
 use borrow.Author.Tests.{eq-eqb, ne-eqb, eqb-true}
 use Rattle.base.proofs.Table.{below, at}
 use Rattle.base.proofs.Xor.{xor-assoc}
-use Rattle.linear.specs.Linear.{image, turned, placeFrom, Separate}
+use Rattle.linear.specs.Linear.{image, turned, placeFrom}
+use Rattle.linear.specs.private.Linear.{Separate}
 use Rattle.linear.proofs.Maps.{image-xor, image-one}
 
 -- ---- a turned bit

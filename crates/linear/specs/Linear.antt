@@ -3,21 +3,15 @@
 -- Assumes nothing.
 use mathlib.Core.List.{List, [], _∷_}
 use mathlib.Core.Bool.{cond}
-use mathlib.Core.Path.{_≡_}
-use Prim.Native.Nat.{ℕ, zero, suc, _+_, _-_, _*_, _/_, _%_, _^_, _≤_, _<_}
+use Prim.Native.Nat.{ℕ, _+_, _-_, _*_, _/_, _%_, _^_}
 use lib.Bits.{bitXor}
 use lib.Dec.{eqb}
-use lib.ListN.{length, getD}
+use lib.ListN.{length}
 
 -- the sum, bit by bit mod 2, of the columns, each times its bit of the word
 abbrev pub image : List ℕ → ℕ → ℕ
 image [] word = 0
 image (c ∷ cs) word = bitXor (word / 2 ^ length cs % 2 * c) (image cs word)
-
--- the map that leaves a word of n bits as it is
-abbrev pub units : ℕ → List ℕ
-units zero = []
-units (suc n) = 2 ^ n ∷ units n
 
 -- the word of n bits with the bit at the place turned
 abbrev pub turned : ℕ → ℕ → ℕ → ℕ
@@ -27,7 +21,3 @@ turned n place word = bitXor word (2 ^ (n - place))
 abbrev pub placeFrom : ℕ → ℕ → List ℕ → ℕ
 placeFrom k s [] = 0
 placeFrom k s (c ∷ cs) = cond (eqb c s) k (placeFrom (k + 1) s cs)
-
--- no two columns add up to 0 or to a column, so that one wrong bit is told from none and from two
-abbrev pub Separate : List ℕ → Type 0
-Separate cs = (i j k : ℕ) → j < i → i < length cs → k ≤ length cs → bitXor (getD cs i 0) (getD cs j 0) ≡ getD (0 ∷ cs) k 0 → ⊥

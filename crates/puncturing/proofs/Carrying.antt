@@ -11,7 +11,7 @@ use Rattle.base.proofs.Moves.{scatter-none, scatter-more}
 use Rattle.puncturing.specs.declared.Direction.{Direction}
 use Rattle.puncturing.specs.declared.Direction.the-variants as ways
 use Rattle.puncturing.specs.Puncturing.{keptPlace, needed, punctureRefusal, depunctureRefusal}
-use Rattle.puncturing.specs.Walk.{carried, Holds, put, Reaches, Carries}
+use Rattle.puncturing.specs.private.Walk.{carried, Holds, put, Reaches, Carries}
 use Rattle.puncturing.proofs.Modes.{kept-within}
 use Rattle.puncturing.proofs.Refusing.{moves}
 

@@ -11,9 +11,10 @@ use lib.Dec.{T, leb, ltb, eqb, eqb→eq, ltb→lt, leb→le}
 use lib.ListN.{length, getD}
 use borrow.Author.Tests.{ltb-true, ltb-false, lt-leb}
 use Rattle.base.specs.Bits.{either}
-use Rattle.base.specs.Places.{Apart, Within}
+use Rattle.base.specs.Places.{Apart}
+use Rattle.base.specs.private.Places.{Within}
 use Rattle.base.proofs.Table.{below, at}
-use Rattle.puncturing.specs.Walk.{runs, rows}
+use Rattle.puncturing.specs.private.Walk.{runs, rows}
 use Rattle.puncturing.specs.Puncturing.{periods, kept, index, position, positionOf, keptPlace, needed}
 
 -- a rule of the seven modes

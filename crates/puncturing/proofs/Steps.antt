@@ -10,7 +10,7 @@ use lib.Dec.{T, leb, ltb, eqb, eqb→eq, leb→le, ltb→lt}
 use lib.ListN.{getD}
 use borrow.Author.Tests.{lt-leb}
 use Rattle.base.specs.Bits.{both, either}
-use Rattle.base.specs.Places.{Within}
+use Rattle.base.specs.private.Places.{Within}
 use Rattle.base.proofs.Table.{below, at, both-left, both-right}
 use Rattle.puncturing.specs.Puncturing.{index, position, keptPlace}
 use Rattle.puncturing.proofs.Modes.{by-mode, modes, modes-le, t-of, period-of, kept-of, entry, position-entry, quotient, remainder, kept-rises, second}

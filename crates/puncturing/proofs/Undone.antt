@@ -5,7 +5,7 @@ use mathlib.Core.List.{List}
 use Prim.Native.Nat.{ℕ, _≤_}
 use native.Mathlib.Omega.{arith}
 use lib.ListN.{length, take}
-use Rattle.base.specs.Places.{Within}
+use Rattle.base.specs.private.Places.{Within}
 use Rattle.base.proofs.Moves.{gather-scatter}
 use Rattle.puncturing.specs.Puncturing.{keptPlace, needed, punctured, depunctured}
 use Rattle.puncturing.proofs.Modes.{kept-apart, kept-within}

@@ -7,10 +7,10 @@ use native.Mathlib.Nat.{mul-add, mul-one, mod-lt, div-le-self, div-add-mod, div-
 use native.Mathlib.Omega.{arith}
 use lib.Dec.{leb, leb→le, eqb, eqb→eq}
 use lib.ListN.{getD}
-use Rattle.base.specs.Places.{Within}
+use Rattle.base.specs.private.Places.{Within}
 use Rattle.puncturing.specs.declared.Puncturer.{Puncturer}
 use Rattle.puncturing.specs.declared.Kept.{Kept}
-use Rattle.puncturing.specs.Walk.{outputsKept, runs, rows, Sound, Parameters, Lies, Stands, Period, Periods}
+use Rattle.puncturing.specs.private.Walk.{outputsKept, runs, rows, Sound, Parameters, Lies, Stands, Period, Periods}
 use Rattle.puncturing.specs.Puncturing.{periods, position, keptPlace}
 use Rattle.puncturing.proofs.Modes.{t-of, period-of, kept-of, modes, modes-le, entries, quotient, remainder, stays, wraps, entry, position-entry, rows-kept, index-run, position-some, position-most}
 

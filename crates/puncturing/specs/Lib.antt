@@ -1,2 +1,2 @@
 pub mod Puncturing
-pub mod Walk
+pub mod private

@@ -8,7 +8,7 @@ ghost use lib.ListN.{length, getD};
 ghost use Rattle.base.specs.Refusal.{Leaves};
 ghost use Rattle.base.specs.Places.{written};
 ghost use Rattle.puncturing.specs.Puncturing.{needed, punctureRefusal, depunctureRefusal, punctured, depunctured};
-ghost use Rattle.puncturing.specs.Walk.{rows, Sound, Parameters, Lies, Stands, Period, Periods, Reaches, put, Holds, Carries, carried};
+ghost use Rattle.puncturing.specs.private.Walk.{rows, Sound, Parameters, Lies, Stands, Period, Periods, Reaches, put, Holds, Carries, carried};
 use base::KIND;
 use base::LIMIT;
 use base::Outcome;

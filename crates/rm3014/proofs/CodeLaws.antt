@@ -15,7 +15,8 @@ use Rattle.base.specs.Digits.{number}
 use Rattle.base.specs.Places.{tabulate, written}
 use Rattle.base.proofs.Table.{below, at}
 use Rattle.base.proofs.Lists.{tabulate-length, tabulate-of, written-whole}
-use Rattle.linear.specs.Linear.{image, units, placeFrom, Separate}
+use Rattle.linear.specs.Linear.{image, placeFrom}
+use Rattle.linear.specs.private.Linear.{units, Separate}
 use Rattle.linear.proofs.Maps.{xor-nothing, sums, image-mod, image-append, image-lt, image-image, image-sums, image-units, image-raised, image-undone, image-nothing}
 use Rattle.linear.proofs.WrongBits.{separate-by-test, place-at}
 use Rattle.rm3014.specs.Code.{table, parity, codeWord, dataOf, upwards, columns, syndrome, placeOf}

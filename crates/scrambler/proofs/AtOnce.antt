@@ -14,7 +14,8 @@ use lib.Pow.{pow-lt, pow-pos, shr-shr, field, mod-mod-pow}
 use borrow.Author.Tests.{ltb-true, ltb-false, eqb-true, eqb-false}
 use Rattle.base.proofs.Table.{at}
 use Rattle.base.proofs.Xor.{xor-bit, xor-odd, xor-swap}
-use Rattle.scrambler.specs.Scrambling.{taps, newBit, next, nexts, output}
+use Rattle.scrambler.specs.Scrambling.{taps, newBit, next, output}
+use Rattle.scrambler.specs.private.Scrambling.{nexts}
 use Rattle.scrambler.proofs.Outputs.{new-bit-lt, next-top, nexts-lt, nexts-add, output-new, output-after}
 
 -- ---- maps that keep exclusive or

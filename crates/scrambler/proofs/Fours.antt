@@ -11,8 +11,9 @@ use lib.Dec.{eqb, eqb→eq}
 use Rattle.base.specs.Places.{tabulate, written}
 use Rattle.base.proofs.Lists.{tabulate-length, write-more, written-whole}
 use Rattle.base.proofs.Table.{below, at}
-use Rattle.scrambler.specs.Scrambling.{nexts, output, descrambledSymbol, descrambled}
-use Rattle.scrambler.specs.Fours.{Spreads, Taken, Begun}
+use Rattle.scrambler.specs.Scrambling.{output, descrambledSymbol, descrambled}
+use Rattle.scrambler.specs.private.Scrambling.{nexts}
+use Rattle.scrambler.specs.private.Fours.{Spreads, Taken, Begun}
 use Rattle.scrambler.proofs.AtOnce.{low-bit, register-more, register-next, register-fourth, register-output, register-outputs}
 use Rattle.scrambler.proofs.Blocks.{write-ahead}
 

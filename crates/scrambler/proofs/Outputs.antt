@@ -4,7 +4,8 @@ use mathlib.Core.Path.{_≡_, refl, sym, ap, _∙_}
 use Prim.Native.Nat.{ℕ, zero, suc, _+_, _/_, _^_, _<_}
 use native.Mathlib.Nat.{add-zero, add-suc}
 use native.Mathlib.Omega.{arith}
-use Rattle.scrambler.specs.Scrambling.{newBit, next, nexts, output}
+use Rattle.scrambler.specs.Scrambling.{newBit, next, output}
+use Rattle.scrambler.specs.private.Scrambling.{nexts}
 
 pub new-bit-lt : (x : ℕ) → newBit x < 2
 unfolding newBit

@@ -1,2 +1,2 @@
 pub mod Scrambling
-pub mod Fours
+pub mod private

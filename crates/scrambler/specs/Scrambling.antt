@@ -21,11 +21,6 @@ newBit x = foldr (λ t sum. x / 2 ^ t % 2 + sum) 0 taps % 2
 unfoldable pub next : ℕ → ℕ
 next x = x / 2 + newBit x * 2 ^ 31
 
--- the register after n shifts
-unfoldable pub nexts : ℕ → ℕ → ℕ
-nexts x zero = x
-nexts x (suc n) = next (nexts x n)
-
 -- output i from the start x, counted from 0
 unfoldable pub output : ℕ → ℕ → ℕ
 output x zero = newBit x

@@ -10,7 +10,8 @@ use lib.ListN.{length, take, drop, replicate, length-append, length-replicate}
 use lib.Seq.{length-take-le, take-at}
 use Rattle.base.specs.Refusal.{accepted, unless}
 use Rattle.base.specs.Bits.{Bits}
-use Rattle.base.specs.Places.{written, scatter, Apart, Within}
+use Rattle.base.specs.Places.{written, scatter, Apart}
+use Rattle.base.specs.private.Places.{Within}
 use Rattle.base.proofs.BitLaws.{bits-only-yes}
 use Rattle.base.proofs.Lists.{written-whole}
 use Rattle.base.proofs.Moves.{Onto, gather-length, scatter-length, scatter-over}

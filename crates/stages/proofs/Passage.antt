@@ -6,7 +6,8 @@ use Prim.Native.Nat.{ℕ, _+_, _*_, _%_, _<_}
 use native.Mathlib.Omega.{arith}
 use lib.ListN.{length, getD}
 use Rattle.base.specs.Bits.{Bits, ERASED, disagrees}
-use Rattle.base.specs.Places.{Apart, Within}
+use Rattle.base.specs.Places.{Apart}
+use Rattle.base.specs.private.Places.{Within}
 use Rattle.base.proofs.BitLaws.{bits-at}
 use Rattle.trellis.specs.Nearest.{encode, Candidate}
 use Rattle.convenc.specs.Generators.{outputs}

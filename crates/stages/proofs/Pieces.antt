@@ -9,7 +9,8 @@ use lib.Dec.{ltb}
 use borrow.Author.Tests.{ltb-true, ltb-false, lt-ltb, le-ltb}
 use lib.ListN.{length, getD, List·getD-append}
 use lib.Seq.{getD-append-add}
-use Rattle.base.specs.Places.{Apart, Within}
+use Rattle.base.specs.Places.{Apart}
+use Rattle.base.specs.private.Places.{Within}
 use Rattle.stages.proofs.Route.{Missed}
 
 module _ (p q : ℕ → ℕ) (n a : ℕ) where

@@ -8,7 +8,8 @@ use native.Mathlib.Omega.{arith}
 use lib.ListN.{length, take, getD, replicate, length-replicate, getD-replicate}
 use lib.Seq.{length-take-le, getD-take, take-all}
 use Rattle.base.specs.Bits.{Bits, ERASED}
-use Rattle.base.specs.Places.{gather, scatter, Apart, Within}
+use Rattle.base.specs.Places.{gather, scatter, Apart}
+use Rattle.base.specs.private.Places.{Within}
 use Rattle.base.proofs.Moves.{gather-at, scatter-length, scatter-hit, scatter-miss, gather-scatter}
 use Rattle.trellis.specs.Nearest.{encode}
 use Rattle.trellis.proofs.Words.{zeros-bits}

@@ -5,7 +5,8 @@ use mathlib.Core.Path.{_≡_, sym, ap, _∙_, subst}
 use mathlib.Core.List.{List}
 use Prim.Native.Nat.{ℕ, _<_}
 use lib.ListN.{length}
-use Rattle.base.specs.Places.{Apart, Within}
+use Rattle.base.specs.Places.{Apart}
+use Rattle.base.specs.private.Places.{Within}
 use Rattle.air.specs.Channel.{Channel, distanceOf, Undamaged}
 use Rattle.air.proofs.Sums.{sum-same, sum-places}
 

@@ -7,7 +7,6 @@ ghost use Rattle.base.specs.Bits.{Bits};
 ghost use Rattle.puncturing.specs.Puncturing.{needed, punctured, depunctured};
 ghost use Rattle.interleaver.specs.Interleaving.{shared, interleaved, deinterleaved, matrixInterleaved, matrixDeinterleaved};
 ghost use Rattle.scrambler.specs.Scrambling.{scrambled, descrambled};
-
 // ---- onto the air
 
 // What a mode keeps of mother symbols, over the whole target.

@@ -9,7 +9,8 @@ use lib.Dec.{T, eqb, ltb, ltb→lt, eqb→eq}
 use lib.ListN.{length, take}
 use Rattle.base.specs.Refusal.{when}
 use Rattle.base.specs.Bits.{both}
-use Rattle.base.specs.Places.{written, Apart, Within}
+use Rattle.base.specs.Places.{written, Apart}
+use Rattle.base.specs.private.Places.{Within}
 use Rattle.base.proofs.Moves.{Onto, gather-scatter, scatter-gather}
 use Rattle.base.proofs.Table.{at, both-left, both-right}
 use Rattle.tch_reorder.specs.Order.{order, codecPlace, channelOf, codecOf}

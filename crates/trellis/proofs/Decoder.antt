@@ -11,7 +11,8 @@ use lib.Dec.{ltb}
 use borrow.Author.Tests.{ltb-true, ltb-false}
 use lib.ListN.{length, take, drop, getD, length-reverse, length-take}
 use Rattle.base.specs.Bits.{Bits}
-use Rattle.trellis.specs.Nearest.{encode, after, distance, nearest, Lex, Candidate, Before, Winner}
+use Rattle.trellis.specs.Nearest.{encode, distance, nearest, Lex, Candidate, Before, Winner}
+use Rattle.trellis.specs.private.Nearest.{after}
 use Rattle.trellis.specs.Trellis.{state, cost, metric, trace, begin, Bounded, branch, steps, decode}
 use Rattle.trellis.proofs.Words.{bits-reverse, after-state}
 use Rattle.trellis.proofs.Paths.{trace-length, trace-bits, trace-ends, trace-costs, least, first, state-lt}

@@ -9,7 +9,8 @@ use lib.ListN.{length, take, drop, length-append, take-append-drop}
 use lib.Seq.{length-take-le}
 use Rattle.base.specs.Bits.{Bits}
 use Rattle.base.proofs.BitLaws.{bits-append}
-use Rattle.trellis.specs.Nearest.{encode, after, distance, total}
+use Rattle.trellis.specs.Nearest.{encode, distance, total}
+use Rattle.trellis.specs.private.Nearest.{after}
 
 -- ---- distances
 pub distance-append : {A : Type 0} (m : A → ℕ → ℕ) (r s : List A) (y z : List ℕ) → length r ≡ length y

@@ -6,7 +6,7 @@ use Prim.Native.Nat.{ℕ, zero, suc, _+_, _*_, _/_}
 use native.Mathlib.Omega.{arith}
 use lib.ListN.{length, drop, getD, replicate, length-replicate}
 use Rattle.base.specs.Bits.{Bits}
-use Rattle.trellis.specs.Nearest.{after}
+use Rattle.trellis.specs.private.Nearest.{after}
 use Rattle.trellis.specs.Trellis.{state}
 
 bits-reverse-onto : (w v : List ℕ) → Bits w → Bits v → Bits (reverseAux w v)

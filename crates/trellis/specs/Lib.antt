@@ -1,2 +1,3 @@
 pub mod Nearest
 pub mod Trellis
+pub mod private

@@ -15,11 +15,6 @@ abbrev pub encode : (ℕ → List ℕ) → ℕ → List ℕ → List ℕ
 encode out s [] = []
 encode out s (b ∷ w) = out (16 * b + s) ++ encode out (8 * b + s / 2) w
 
--- the four delayed bits after a word
-abbrev pub after : ℕ → List ℕ → ℕ
-after s [] = s
-after s (b ∷ w) = after (8 * b + s / 2) w
-
 -- the sum over the places of what it costs that r was received where y was sent, which is m r y
 abbrev pub distance : {A : Type 0} → (A → ℕ → ℕ) → List A → List ℕ → ℕ
 distance m [] ys = 0

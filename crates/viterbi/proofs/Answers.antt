@@ -23,7 +23,7 @@ use Rattle.trellis.proofs.Decoder.{steps-bounded, decode-nearest, decode-distan
 use Rattle.convenc.specs.Generators.{outputs}
 use Rattle.base.specs.declared.Valued.the-variants.{Value, Refused}
 use Rattle.viterbi.specs.Decoding.{disagreements, decoded, decodeRefusal, cleared, Decodes}
-use Rattle.viterbi.specs.Scores.{down, Marks, Stands, mirrored, earlier, Table, told, Tells, handicap, received, Forward, walk, walkEnd, Back}
+use Rattle.viterbi.specs.private.Scores.{down, Marks, Stands, mirrored, earlier, Table, told, Tells, handicap, received, Forward, walk, walkEnd, Back}
 use Rattle.viterbi.proofs.Signed.{reads}
 use Rattle.viterbi.proofs.States.{mirrored-back, mirrored-newest, mirrored-earlier}
 use Rattle.viterbi.proofs.Windows.{told-bits}

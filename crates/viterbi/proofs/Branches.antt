@@ -15,7 +15,7 @@ use lib.Seq.{getD-set-same, getD-set-other}
 use mir.Syntax.{w8, w16}
 use mir.Val.{SFits, toZ, ofZ}
 use mir.Facts.{toZ-ofZ}
-use Rattle.viterbi.specs.Scores.{Sixteen, Trit, Table, signAt, scoreOf, classOf, Classes, Rows, branchOf}
+use Rattle.viterbi.specs.private.Scores.{Sixteen, Trit, Table, signAt, scoreOf, classOf, Classes, Rows, branchOf}
 use Rattle.viterbi.proofs.Signed.{fits, reads, neg-up, neg-down, mag-add}
 use Rattle.viterbi.proofs.Sixteen.{filled-more}
 

@@ -17,7 +17,7 @@ use Rattle.base.specs.Bits.{disagrees, known}
 use Rattle.base.proofs.BitLaws.{disagrees-le}
 use Rattle.trellis.specs.Nearest.{total}
 use Rattle.trellis.proofs.Encoding.{Each}
-use Rattle.viterbi.specs.Scores.{up, down, Stands}
+use Rattle.viterbi.specs.private.Scores.{up, down, Stands}
 use Rattle.viterbi.proofs.Signed.{add-parts, mag-up, same-parts}
 
 -- ---- sums

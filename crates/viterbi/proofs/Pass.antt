@@ -15,7 +15,7 @@ use Rattle.base.proofs.BitLaws.{known-le}
 use Rattle.trellis.specs.Nearest.{total}
 use Rattle.trellis.specs.Trellis.{before, metric, choice, branch}
 use Rattle.trellis.proofs.Paths.{lesser-left}
-use Rattle.viterbi.specs.Scores.{Holds, Marks, Rows, Stands, Small, mirrored, earlier, Table, told, branchOf, firstWay, secondWay, better, oldest, Turned, handicap, received, Forward}
+use Rattle.viterbi.specs.private.Scores.{Holds, Marks, Rows, Stands, Small, mirrored, earlier, Table, told, branchOf, firstWay, secondWay, better, oldest, Turned, handicap, received, Forward}
 use Rattle.viterbi.proofs.Signed.{mag-of}
 use Rattle.viterbi.proofs.States.{mirrored-earlier, mirrored-handicap}
 use Rattle.viterbi.proofs.Windows.{branch-stands, branch-other}

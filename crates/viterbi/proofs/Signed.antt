@@ -11,7 +11,7 @@ use lib.Signed.{mag, ltZ}
 use mir.Syntax.{w16}
 use mir.Val.{SFits, toZ, ofZ}
 use mir.Facts.{toZ-ofZ}
-use Rattle.viterbi.specs.Scores.{up, down}
+use Rattle.viterbi.specs.private.Scores.{up, down}
 
 -- ---- sums and differences
 sub-parts : (a b : ℕ) → up (subℕ a b) + b ≡ a + down (subℕ a b)

@@ -9,7 +9,7 @@ use borrow.Author.Count.{below-more}
 use lib.IntN.{ℤ, pos}
 use lib.ListN.{length, getD, set}
 use lib.Seq.{getD-set-same, getD-set-other}
-use Rattle.viterbi.specs.Scores.{Marks}
+use Rattle.viterbi.specs.private.Scores.{Marks}
 
 -- ---- entries
 pub filled-more : (f : ℕ → ℤ) (zs : List ℤ) (s : ℕ) (z : ℤ) → s < length zs → ((j : ℕ) → j < s → getD zs j (pos 0) ≡ f j) → z ≡ f s

@@ -6,7 +6,7 @@ use native.Mathlib.Omega.{arith}
 use lib.Dec.{eqb, eqb→eq}
 use Rattle.base.proofs.Table.{below, at}
 use Rattle.trellis.specs.Trellis.{before}
-use Rattle.viterbi.specs.Scores.{mirrored, earlier, handicap}
+use Rattle.viterbi.specs.private.Scores.{mirrored, earlier, handicap}
 
 pub mirrored-lt : (s : ℕ) → mirrored s < 16
 unfolding mirrored

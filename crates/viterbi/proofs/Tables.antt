@@ -14,7 +14,7 @@ use Rattle.base.specs.Bits.{both, either}
 use Rattle.base.specs.Places.{tabulate}
 use Rattle.base.proofs.Table.{both-left, both-right, below, at}
 use Rattle.convenc.specs.Generators.{control, speech, tapped, outputs}
-use Rattle.viterbi.specs.Scores.{mirrored, Sign, signAt, Table, told, Tells}
+use Rattle.viterbi.specs.private.Scores.{mirrored, Sign, signAt, Table, told, Tells}
 
 -- ---- a code's table
 abbrev sign : ℕ → ℤ

@@ -6,7 +6,7 @@ use Prim.Native.Nat.{ℕ, zero, suc, _+_, _*_, _/_, _%_, _^_, _-_, _≤_, _<_}
 use native.Mathlib.Omega.{arith}
 use lib.ListN.{length, getD, take, drop, set, replicate, length-set, take-append-drop, List·getD-append}
 use lib.Seq.{take-suc, set-at, length-take-le, getD-take}
-use Rattle.viterbi.specs.Scores.{walk, walkEnd, Back}
+use Rattle.viterbi.specs.private.Scores.{walk, walkEnd, Back}
 
 -- with i steps to go, in state s
 pub record Walked (n i s : ℕ) (trellis trellis′ target target′ : List ℕ) : Type 0 where

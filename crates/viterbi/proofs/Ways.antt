@@ -14,7 +14,7 @@ use mir.Syntax.{w16}
 use mir.Val.{SFits, toZ, ofZ}
 use mir.Facts.{toZ-ofZ}
 use Rattle.trellis.specs.Trellis.{lesser, taken}
-use Rattle.viterbi.specs.Scores.{Stands, Small, Holds, Marks, earlier, firstWay, secondWay, better, oldest, Turned}
+use Rattle.viterbi.specs.private.Scores.{Stands, Small, Holds, Marks, earlier, firstWay, secondWay, better, oldest, Turned}
 use Rattle.viterbi.proofs.Signed.{add-parts, take-parts, less-yes, less-no, mag-add, mag-take, fits, reads}
 
 -- ---- in i16

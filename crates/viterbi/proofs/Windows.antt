@@ -12,7 +12,7 @@ use Rattle.base.specs.Bits.{Bits, disagrees, known}
 use Rattle.base.specs.Places.{tabulate}
 use Rattle.base.proofs.BitLaws.{disagrees-other, bits-tabulate}
 use Rattle.trellis.specs.Nearest.{distance, total}
-use Rattle.viterbi.specs.Scores.{up, down, Stands, Sign, bitOf, mirrored, signAt, Table, turned, told, scoreOf, branchOf}
+use Rattle.viterbi.specs.private.Scores.{up, down, Stands, Sign, bitOf, mirrored, signAt, Table, turned, told, scoreOf, branchOf}
 use Rattle.viterbi.proofs.Signed.{add-parts}
 use Rattle.viterbi.proofs.States.{mirrored-lt, mirrored-back}
 

@@ -1,3 +1,3 @@
 pub mod Decoding
 pub mod Hearing
-pub mod Scores
+pub mod private

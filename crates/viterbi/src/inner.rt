@@ -9,7 +9,7 @@ ghost use lib.ListN.{length, getD, take};
 ghost use Rattle.base.specs.Bits.{known};
 ghost use Rattle.trellis.specs.Nearest.{total};
 ghost use Rattle.viterbi.specs.Decoding.{decodeRefusal, Decodes};
-ghost use Rattle.viterbi.specs.Scores.{Sixteen, Holds, Marks, Small, Trit, Trits, Stands, Table, Tells, Rows, classOf, Classes, branchOf, firstWay, secondWay, better, oldest, Turned, Forward, Back, down};
+ghost use Rattle.viterbi.specs.private.Scores.{Sixteen, Holds, Marks, Small, Trit, Trits, Stands, Table, Tells, Rows, classOf, Classes, branchOf, firstWay, secondWay, better, oldest, Turned, Forward, Back, down};
 use base::LIMIT;
 use base::ROOM;
 use base::SHORT;

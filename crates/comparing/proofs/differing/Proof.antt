@@ -4,7 +4,7 @@ use Prim.Native.Nat.{ℕ, _-_, _≤_}
 use native.Mathlib.Omega.{arith}
 use lib.Bits.{bitOr}
 use borrow.Author.Needs.{needs}
-use Rattle.comparing.specs.Gathering.{differing}
+use Rattle.comparing.specs.private.Gathering.{differing}
 use Rattle.comparing.proofs.Matching.{differing-none, differing-more}
 use Rattle.comparing.proofs.differing.Statement.{statement}
 use Rattle.comparing.proofs.differing.Tie as tie

@@ -5,7 +5,7 @@ use native.Mathlib.Omega.{arith}
 use lib.ListN.{length, take, getD}
 use lib.Seq.{take-all}
 use borrow.Author.Needs.{needs}
-use Rattle.comparing.specs.Gathering.{unerased}
+use Rattle.comparing.specs.private.Gathering.{unerased}
 use Rattle.comparing.proofs.Matching.{counts-most, unerased-none, unerased-more}
 use Rattle.comparing.proofs.unerased.Statement.{statement}
 use Rattle.comparing.proofs.unerased.Tie as tie

@@ -4,7 +4,7 @@ use Prim.Native.Nat.{ℕ, _+_, _-_, _≤_}
 use native.Mathlib.Omega.{arith}
 use lib.ListN.{take, drop, length-take}
 use borrow.Author.Needs.{needs}
-use Rattle.comparing.specs.Gathering.{unerased}
+use Rattle.comparing.specs.private.Gathering.{unerased}
 use Rattle.comparing.proofs.Matching.{unerased-none, unerased-part, unerased-most}
 use Rattle.comparing.proofs.unerased_among.Statement.{statement}
 use Rattle.comparing.proofs.unerased_among.Tie as tie

@@ -8,7 +8,7 @@ use lib.ListN.{length, getD}
 use lib.Seq.{sets}
 use borrow.Kind.Array.{eInt, good-length}
 use borrow.Author.Needs.{needs}
-use Rattle.convenc.specs.Tapping.{generators, taps}
+use Rattle.convenc.specs.private.Tapping.{generators, taps}
 use Rattle.convenc.specs.declared.Code.{Code}
 use Rattle.convenc.specs.declared.Code.the-variants as codes
 use Rattle.convenc.proofs.Taps.{stored-by}

@@ -3,7 +3,7 @@ use mathlib.Core.Path.{subst}
 use mathlib.Core.List.{List}
 use Prim.Native.Nat.{ℕ}
 use borrow.Author.Needs.{needs}
-use Rattle.errorcontrol_tp.specs.Settling.{Settles}
+use Rattle.errorcontrol_tp.specs.private.Settling.{Settles}
 use Rattle.errorcontrol_tp.proofs.receive.Statement.{statement}
 use Rattle.errorcontrol_tp.proofs.receive.Tie as tie
 

@@ -9,7 +9,7 @@ use lib.ListN.{length}
 use Rattle.base.specs.Places.{scatter}
 use Rattle.base.proofs.Moves.{scatter-none, scatter-length}
 use Rattle.interleaver.specs.Interleaving.{turned}
-use Rattle.interleaver.specs.Lines.{MatrixFits, lineMoved}
+use Rattle.interleaver.specs.private.Lines.{MatrixFits, lineMoved}
 use Rattle.interleaver.proofs.Matrix.{line-more, pair-more}
 use Rattle.interleaver.proofs.move_lines.Statement.{statement}
 use Rattle.interleaver.proofs.move_lines.Tie as tie

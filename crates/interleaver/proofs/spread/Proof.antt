@@ -4,7 +4,7 @@ use Prim.Native.Nat.{ℕ, _≤_, _-_}
 use lib.ListN.{length, length-set}
 use Rattle.base.specs.Places.{scatter}
 use Rattle.base.proofs.Moves.{scatter-none}
-use Rattle.interleaver.specs.Walk.{onward, walk}
+use Rattle.interleaver.specs.private.Walk.{onward, walk}
 use Rattle.interleaver.proofs.Walk.{walk-none, walk-more, spread-more}
 use native.Mathlib.Omega.{arith}
 use borrow.Author.Needs.{needs}

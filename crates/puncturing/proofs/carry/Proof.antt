@@ -4,7 +4,7 @@ use Prim.Native.Nat.{ℕ, _-_, _≤_}
 use native.Mathlib.Omega.{arith}
 use lib.ListN.{length}
 use borrow.Author.Needs.{needs}
-use Rattle.puncturing.specs.Walk.{Stands, Holds, Reaches, put}
+use Rattle.puncturing.specs.private.Walk.{Stands, Holds, Reaches, put}
 use Rattle.puncturing.proofs.Walking.{Reads, here, reads-place}
 use Rattle.puncturing.proofs.Carrying.{Carrying, carrying-none, carrying-put, carrying-at, carried-none, holds-front, holds-reach}
 use Rattle.puncturing.proofs.carry.Statement.{statement}

@@ -4,7 +4,7 @@ use lib.ListN.{length}
 use borrow.Author.Needs.{needs}
 use Rattle.puncturing.specs.declared.Direction.{Direction}
 use Rattle.puncturing.specs.declared.Direction.the-variants as ways
-use Rattle.puncturing.specs.Walk.{Reaches, put}
+use Rattle.puncturing.specs.private.Walk.{Reaches, put}
 use Rattle.puncturing.proofs.carry_entry.Statement.{statement}
 use Rattle.puncturing.proofs.carry_entry.Tie as tie
 

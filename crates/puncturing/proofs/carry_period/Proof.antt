@@ -5,7 +5,7 @@ use lib.ListN.{length}
 use borrow.Author.Needs.{needs}
 use Rattle.puncturing.specs.declared.Direction.{Direction}
 use Rattle.puncturing.specs.declared.Direction.the-variants as ways
-use Rattle.puncturing.specs.Walk.{Holds}
+use Rattle.puncturing.specs.private.Walk.{Holds}
 use Rattle.puncturing.proofs.Carrying.{carries-by}
 use Rattle.puncturing.proofs.carry_period.Statement.{statement}
 use Rattle.puncturing.proofs.carry_period.Tie as tie

@@ -6,7 +6,7 @@ use native.Mathlib.Nat.{div-le-self}
 use native.Mathlib.Omega.{arith}
 use lib.ListN.{getD}
 use borrow.Author.Needs.{needs}
-use Rattle.puncturing.specs.Walk.{rows}
+use Rattle.puncturing.specs.private.Walk.{rows}
 use Rattle.puncturing.proofs.Modes.{needed-none, needed-some}
 use Rattle.puncturing.proofs.Walking.{Reads, reads}
 use Rattle.puncturing.proofs.needed.Statement.{statement}

@@ -4,7 +4,7 @@ use mathlib.Core.Path.{_≡_, ap, _∙_}
 use native.Mathlib.Omega.{arith}
 use borrow.Author.Needs.{needs}
 use Rattle.base.specs.Places.{tabulate, written}
-use Rattle.scrambler.specs.Fours.{Taken}
+use Rattle.scrambler.specs.private.Fours.{Taken}
 use Rattle.scrambler.proofs.Fours.{taken-none, taken-more}
 use Rattle.scrambler.proofs.descramble_four.Statement.{statement}
 use Rattle.scrambler.proofs.descramble_four.Tie as tie

@@ -6,7 +6,7 @@ use borrow.Author.Needs.{needs}
 use lib.ListN.{length, getD}
 use Rattle.base.proofs.Lists.{write-none}
 use Rattle.scrambler.specs.Scrambling.{output, descrambledSymbol}
-use Rattle.scrambler.specs.Fours.{Begun}
+use Rattle.scrambler.specs.private.Fours.{Begun}
 use Rattle.scrambler.proofs.Outputs.{nexts-none}
 use Rattle.scrambler.proofs.Fours.{rows-spread, begun-more, begun-whole}
 use Rattle.scrambler.proofs.descramble_fours.Statement.{statement}

@@ -6,7 +6,7 @@ use native.Mathlib.Omega.{arith}
 use borrow.Author.Needs.{needs}
 use lib.ListN.{length, getD, length-set}
 use Rattle.scrambler.specs.Scrambling.{descrambledSymbol}
-use Rattle.scrambler.specs.Fours.{Begun}
+use Rattle.scrambler.specs.private.Fours.{Begun}
 use Rattle.scrambler.proofs.Fours.{begun-long, begun-one, begun-done}
 use Rattle.scrambler.proofs.tetra_descramb_bits.Statement.{statement}
 use Rattle.scrambler.proofs.tetra_descramb_bits.Tie as tie

@@ -8,7 +8,8 @@ use borrow.Author.Needs.{needs}
 use lib.ListN.{length, set, length-set}
 use Rattle.base.specs.Places.{tabulate, written}
 use Rattle.base.proofs.Lists.{tabulate-length, write-none, write-more, written-whole}
-use Rattle.scrambler.specs.Scrambling.{nexts, output}
+use Rattle.scrambler.specs.Scrambling.{output}
+use Rattle.scrambler.specs.private.Scrambling.{nexts}
 use Rattle.scrambler.proofs.Outputs.{nexts-none}
 use Rattle.scrambler.proofs.AtOnce.{register-more, register-next, register-output}
 use Rattle.scrambler.proofs.tetra_scramb_get_bits.Statement.{statement}

@@ -1,7 +1,7 @@
 -- The table is the control code's.
 use borrow.Author.Needs.{needs}
 use Rattle.convenc.specs.Generators.{control, tapped}
-use Rattle.viterbi.specs.Scores.{mirrored}
+use Rattle.viterbi.specs.private.Scores.{mirrored}
 use Rattle.viterbi.proofs.Tables.{controlTable, control-table, control-tells}
 use Rattle.viterbi.proofs.dec_sb1.Statement.{statement}
 use Rattle.viterbi.proofs.dec_sb1.Tie as tie

@@ -1,7 +1,7 @@
 -- The table is the speech code's.
 use borrow.Author.Needs.{needs}
 use Rattle.convenc.specs.Generators.{speech, tapped}
-use Rattle.viterbi.specs.Scores.{mirrored}
+use Rattle.viterbi.specs.private.Scores.{mirrored}
 use Rattle.viterbi.proofs.Tables.{speechTable, speech-table, speech-tells}
 use Rattle.viterbi.proofs.dec_speech.Statement.{statement}
 use Rattle.viterbi.proofs.dec_speech.Tie as tie

@@ -4,7 +4,7 @@ use Prim.Native.Nat.{_+_, _-_, _≤_}
 use native.Mathlib.Omega.{arith}
 use lib.ListN.{length}
 use borrow.Author.Needs.{needs}
-use Rattle.convenc.specs.Tapping.{generators}
+use Rattle.convenc.specs.private.Tapping.{generators}
 use Rattle.convenc.proofs.Delays.{field-length}
 use Rattle.convenc.proofs.Taps.{codes-proper}
 use Rattle.convenc.proofs.Running.{Running, running-none, running-length, running-room, running-more, running-done}

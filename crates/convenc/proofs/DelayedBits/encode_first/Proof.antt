@@ -4,7 +4,7 @@ use native.Mathlib.Omega.{arith}
 use lib.ListN.{length}
 use lib.Seq.{length-take-le}
 use borrow.Author.Needs.{needs}
-use Rattle.convenc.specs.Tapping.{generators}
+use Rattle.convenc.specs.private.Tapping.{generators}
 use Rattle.convenc.proofs.Calls.{front-accepted}
 use Rattle.convenc.proofs.Delays.{field-length, newest-last}
 use Rattle.convenc.proofs.Running.{front-whole}

@@ -46,7 +46,8 @@ use Rattle.base.specs.Refusal.{accepted}
 use Rattle.base.specs.declared.Outcome.{Outcome}
 use Rattle.base.proofs.Outcome as O
 use Rattle.base.proofs.Outcome.Laws as O′
-use Rattle.convenc.specs.Generators.{speech, encodeRefusal, Encoded, InTurn}
+use Rattle.convenc.specs.Generators.{speech, encodeRefusal, Encoded}
+use Rattle.convenc.specs.private.Generators.{InTurn}
 use Rattle.convenc.specs.declared.SpeechConvEncState.{SpeechConvEncState}
 use Rattle.convenc.proofs.SpeechConvEncState.new as new
 use Rattle.convenc.proofs.SpeechConvEncState.new.Symbol as new-def

@@ -6,7 +6,7 @@ use native.Mathlib.Omega.{arith}
 use borrow.Author.Needs.{needs}
 use lib.IntN.{ℤ, pos}
 use lib.ListN.{getD}
-use Rattle.viterbi.specs.Scores.{oldest}
+use Rattle.viterbi.specs.private.Scores.{oldest}
 use Rattle.viterbi.proofs.Sixteen.{number, number-pair, number-room, number-marks}
 use Rattle.viterbi.proofs.Ways.{oldest-lt, small-reads}
 use Rattle.viterbi.proofs.inner.choices.Statement.{statement}

@@ -7,7 +7,7 @@ use native.Mathlib.Omega.{arith}
 use borrow.Author.Needs.{needs}
 use lib.Signed.{mag}
 use lib.ListN.{length, getD, length-set}
-use Rattle.viterbi.specs.Scores.{Forward}
+use Rattle.viterbi.specs.private.Scores.{Forward}
 use Rattle.viterbi.proofs.Branches.{table-trit, rows-trit, branch-small}
 use Rattle.viterbi.proofs.Pass.{step-room, step-place, scores-small, Passed, passed-none, passed-more}
 use Rattle.viterbi.proofs.inner.forward.Statement.{statement}

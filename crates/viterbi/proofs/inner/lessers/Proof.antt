@@ -4,7 +4,7 @@ use mathlib.Core.Path.{_≡_, refl, _∙_}
 use mathlib.Core.Logic.{⊎-elim}
 use lib.IntN.{pos}
 use lib.ListN.{length, getD, length-set}
-use Rattle.viterbi.specs.Scores.{better}
+use Rattle.viterbi.specs.private.Scores.{better}
 use Rattle.viterbi.proofs.Signed.{fits}
 use Rattle.viterbi.proofs.Sixteen.{filled-more}
 use Rattle.viterbi.proofs.Ways.{takes-second, takes-first}

@@ -3,7 +3,7 @@ use Prim.Native.Nat.{ℕ, _-_, _≤_, _<_}
 use mathlib.Core.Path.{_≡_, refl, _∙_}
 use lib.IntN.{pos}
 use lib.ListN.{length, getD, length-set}
-use Rattle.viterbi.specs.Scores.{secondWay}
+use Rattle.viterbi.specs.private.Scores.{secondWay}
 use Rattle.viterbi.proofs.Sixteen.{filled-more}
 use Rattle.viterbi.proofs.Ways.{second-way-fits, second-way-is}
 use native.Mathlib.Omega.{arith}

@@ -5,7 +5,8 @@ use mathlib.Core.List.{List, []}
 use Prim.Native.Nat.{ℕ, _+_, _*_, _/_, _%_, _^_, _<_}
 use lib.ListN.{length, getD}
 use Rattle.base.specs.Places.{tabulate, written}
-use Rattle.scrambler.specs.Scrambling.{nexts, output, descrambledSymbol}
+use Rattle.scrambler.specs.Scrambling.{output, descrambledSymbol}
+use Rattle.scrambler.specs.private.Scrambling.{nexts}
 
 -- row n has the bits of n, the lowest first
 abbrev pub Spreads : List (List ℕ) → Type 0

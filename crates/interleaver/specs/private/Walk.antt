@@ -3,7 +3,7 @@
 use mathlib.Core.Bool.{cond}
 use Prim.Native.Nat.{ℕ, zero, suc, _+_, _-_, _≤_}
 use lib.Dec.{ltb}
-use Rattle.base.specs.Places.{Within}
+use Rattle.base.specs.private.Places.{Within}
 
 -- a step on from a place; where that is no longer below the count, as far from the front
 abbrev pub onward : ℕ → ℕ → ℕ → ℕ

@@ -4,7 +4,8 @@ use mathlib.Core.Path.{_≡_}
 use mathlib.Core.List.{List, [], _∷_}
 use Prim.Native.Nat.{ℕ, _+_, _*_, _/_, _%_, _≤_, _<_}
 use lib.ListN.{length, getD, set}
-use Rattle.base.specs.Places.{written, Within}
+use Rattle.base.specs.Places.{written}
+use Rattle.base.specs.private.Places.{Within}
 use Rattle.puncturing.specs.declared.Puncturer.{Puncturer}
 use Rattle.puncturing.specs.declared.Kept.{Kept}
 use Rattle.puncturing.specs.declared.Direction.{Direction}
