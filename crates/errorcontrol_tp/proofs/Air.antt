@@ -9,7 +9,7 @@ use lib.Seq.{take-all, length-take-le, getD-append-add}
 use Rattle.base.specs.Bits.{Bits}
 use Rattle.base.specs.Places.{gather}
 use Rattle.base.proofs.Moves.{gather-length}
-use Rattle.interleaver.specs.Interleaving.{turned, matrixInterleaved}
+use Rattle.interleaver.specs.Interleaving.{matrixPlace, matrixInterleaved}
 use Rattle.interleaver.proofs.Matrix.{matrix-within, matrix-apart}
 use Rattle.scrambler.specs.Scrambling.{descrambled, descrambledSymbol, output}
 use Rattle.scrambler.proofs.Blocks.{scrambled-bits}
@@ -21,7 +21,7 @@ use Rattle.errorcontrol_tp.specs.Hearing.{codedPlace, sentWord}
 
 -- the air place of block entry i
 abbrev airPlace : ℕ → ℕ
-airPlace = turned 24 18
+airPlace = matrixPlace 24 18
 
 pub block-at : (start : ℕ) (air : List ℕ) → length air ≡ 432 → (i : ℕ) → i < 432
     → getD (blockOf start air) i 0 ≡ descrambledSymbol (getD air (airPlace i) 0) (output start (airPlace i))

@@ -3,14 +3,14 @@
 use mathlib.Core.List.{List, _++_}
 use Prim.Native.Nat.{ℕ, _+_}
 use lib.ListN.{getD, replicate}
-use Rattle.interleaver.specs.Interleaving.{turned}
+use Rattle.interleaver.specs.Interleaving.{matrixPlace}
 use Rattle.air.specs.Channel.{Channel, hard}
 use Rattle.errorcontrol_tp.specs.Sending.{coded, onAir}
 use Rattle.errorcontrol_tp.specs.Receiving.{slotOf}
 
 -- the air place of coded symbol j: the 102 uncoded ones come before them in the block
 abbrev pub codedPlace : ℕ → ℕ
-codedPlace j = turned 24 18 (102 + j)
+codedPlace j = matrixPlace 24 18 (102 + j)
 
 -- a slot that a word is sent in, zeros at the uncoded places
 unfoldable pub sentWord : ℕ → List ℕ → List ℕ

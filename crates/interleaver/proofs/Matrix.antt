@@ -15,7 +15,7 @@ use Rattle.base.specs.Places.{written, gather, scatter, Apart}
 use Rattle.base.specs.private.Places.{Within}
 use Rattle.base.proofs.Moves.{Onto, scatter-same, scatter-join, scatter-set, scatter-back, gather-scatter, scatter-gather}
 use Rattle.base.proofs.Refusals.{passed}
-use Rattle.interleaver.specs.Interleaving.{turned, matrixRefusal, matrixInterleaved, matrixDeinterleaved}
+use Rattle.interleaver.specs.Interleaving.{matrixPlace, matrixRefusal, matrixInterleaved, matrixDeinterleaved}
 use Rattle.interleaver.specs.private.Lines.{MatrixFits, lineMoved}
 use Rattle.interleaver.proofs.Walk.{spread-more}
 
@@ -54,33 +54,33 @@ module _ (lines columns x : ℕ) (h : x < lines * columns) where
   line-below : x / columns < lines
   line-below = div-lt-iff-lt-mul some-columns .1 h
 
-  pub turned-below : turned lines columns x < lines * columns
-  turned-below = omega (arith, digits-lt column-below line-below, mul-comm lines columns)
+  pub matrix-place-below : matrixPlace lines columns x < lines * columns
+  matrix-place-below = omega (arith, digits-lt column-below line-below, mul-comm lines columns)
 
   -- turning the other way is going back
-  pub turned-back : turned columns lines (turned lines columns x) ≡ x
-  turned-back =
+  pub matrix-place-back : matrixPlace columns lines (matrixPlace lines columns x) ≡ x
+  matrix-place-back =
       ap₂ (λ (j i : ℕ). j * columns + i) (digits-mod (x % columns) line-below) (digits-div (x % columns) line-below) ∙ div-add-mod' x columns
 
-pub matrix-within : (lines columns : ℕ) → Within (turned lines columns) (lines * columns) (lines * columns)
-matrix-within lines columns i h = turned-below lines columns i h
+pub matrix-within : (lines columns : ℕ) → Within (matrixPlace lines columns) (lines * columns) (lines * columns)
+matrix-within lines columns i h = matrix-place-below lines columns i h
 
-pub matrix-apart : (lines columns : ℕ) → Apart (turned lines columns) (lines * columns)
-matrix-apart lines columns i j p q e = sym (turned-back lines columns i p) ∙ ap (turned columns lines) e ∙ turned-back lines columns j q
+pub matrix-apart : (lines columns : ℕ) → Apart (matrixPlace lines columns) (lines * columns)
+matrix-apart lines columns i j p q e = sym (matrix-place-back lines columns i p) ∙ ap (matrixPlace columns lines) e ∙ matrix-place-back lines columns j q
 
-pub matrix-onto : (lines columns : ℕ) → Onto (turned lines columns) (lines * columns)
+pub matrix-onto : (lines columns : ℕ) → Onto (matrixPlace lines columns) (lines * columns)
 matrix-onto lines columns x h =
     let c = mul-comm lines columns in
     let l : x < columns * lines = omega arith in
-    (turned columns lines x, omega (arith, turned-below columns lines x l), turned-back columns lines x l)
+    (matrixPlace columns lines x, omega (arith, matrix-place-below columns lines x l), matrix-place-back columns lines x l)
 
 -- ---- a line of the source
 pub one-more : (n m : ℕ) → (n + 1) * m ≡ n * m + m
 one-more n m = add-mul n 1 m ∙ ap (λ (x : ℕ). n * m + x) (one-mul m)
 
 -- what fits as lines fits as columns
-pub fits-turned : (lines columns src dst : ℕ) → MatrixFits lines columns src dst → MatrixFits columns lines src dst
-fits-turned lines columns src dst fits =
+pub fits-matrixPlace : (lines columns src dst : ℕ) → MatrixFits lines columns src dst → MatrixFits columns lines src dst
+fits-matrixPlace lines columns src dst fits =
     let e = mul-comm lines columns in
     record {
       few-lines = fits .few-columns;
@@ -101,22 +101,22 @@ module _ (lines columns line : ℕ) (inside : line < lines) where
 
   -- the lines before it and the line
   pub line-more : (src dst : List ℕ)
-      → lineMoved lines columns line src (scatter (turned lines columns) (line * columns) src dst) ≡ scatter (turned lines columns) ((line + 1) * columns) src dst
+      → lineMoved lines columns line src (scatter (matrixPlace lines columns) (line * columns) src dst) ≡ scatter (matrixPlace lines columns) ((line + 1) * columns) src dst
   line-more src dst =
-      scatter-same (λ i. i * lines + line) (λ i. turned lines columns (line * columns + i)) columns (drop (line * columns) src) (scatter (turned lines columns) (line * columns) src dst)
+      scatter-same (λ i. i * lines + line) (λ i. matrixPlace lines columns (line * columns + i)) columns (drop (line * columns) src) (scatter (matrixPlace lines columns) (line * columns) src dst)
       (λ i h. sym (ap₂ (λ (c l : ℕ). c * lines + l) (digits-mod line h) (digits-div line h)))
-      ∙ scatter-join (turned lines columns) (line * columns) columns src dst
-      ∙ ap (λ (n : ℕ). scatter (turned lines columns) n src dst) (sym (one-more line columns))
+      ∙ scatter-join (matrixPlace lines columns) (line * columns) columns src dst
+      ∙ ap (λ (n : ℕ). scatter (matrixPlace lines columns) n src dst) (sym (one-more line columns))
 
 -- and the next line
 pub pair-more : (lines columns line : ℕ) → line + 1 < lines → (src dst : List ℕ)
-    → lineMoved lines columns (line + 1) src (lineMoved lines columns line src (scatter (turned lines columns) (line * columns) src dst))
-    ≡ scatter (turned lines columns) ((line + 2) * columns) src dst
+    → lineMoved lines columns (line + 1) src (lineMoved lines columns line src (scatter (matrixPlace lines columns) (line * columns) src dst))
+    ≡ scatter (matrixPlace lines columns) ((line + 2) * columns) src dst
 pair-more lines columns line inside src dst =
     let two : line + 1 + 1 ≡ line + 2 = omega arith in
     ap (lineMoved lines columns (line + 1) src) (line-more lines columns line (omega arith) src dst)
     ∙ line-more lines columns (line + 1) inside src dst
-    ∙ ap (λ (n : ℕ). scatter (turned lines columns) (n * columns) src dst) two
+    ∙ ap (λ (n : ℕ). scatter (matrixPlace lines columns) (n * columns) src dst) two
 
 pub next-ends : (lines columns line : ℕ) → line + 1 < lines → line * columns + columns + columns ≤ lines * columns
 next-ends lines columns line inside = omega (arith, line-ends lines columns (line + 1) inside, one-more line columns)
@@ -159,10 +159,10 @@ at-more lines line i at e = omega (arith, one-more i lines)
 pub matrix-back : (lines columns : ℕ) (src dst : List ℕ) → lines * columns ≤ length dst
     → matrixInterleaved columns lines src dst ≡ written (matrixDeinterleaved lines columns src) dst
 matrix-back lines columns src dst room =
-    scatter-back (turned lines columns) (turned columns lines) (columns * lines) src dst (matrix-apart columns lines) (matrix-within columns lines)
-    (λ x h. omega (arith, turned-below lines columns x (other x h), mul-comm lines columns)) (λ x h. turned-back lines columns x (other x h))
+    scatter-back (matrixPlace lines columns) (matrixPlace columns lines) (columns * lines) src dst (matrix-apart columns lines) (matrix-within columns lines)
+    (λ x h. omega (arith, matrix-place-below lines columns x (other x h), mul-comm lines columns)) (λ x h. matrix-place-back lines columns x (other x h))
     (omega (arith, mul-comm lines columns))
-    ∙ ap (λ (n : ℕ). written (gather (turned lines columns) n src) dst) (mul-comm columns lines)
+    ∙ ap (λ (n : ℕ). written (gather (matrixPlace lines columns) n src) dst) (mul-comm columns lines)
   where
     other : (x : ℕ) → x < columns * lines → x < lines * columns
     other x h = omega (arith, mul-comm lines columns)
@@ -172,9 +172,9 @@ module _ (lines columns : ℕ) (src dst : List ℕ) (long : lines * columns ≤ 
   -- what was interleaved is deinterleaved back
   pub matrix-deinterleaved-interleaved : matrixDeinterleaved lines columns (matrixInterleaved lines columns src dst) ≡ take (lines * columns) src
   matrix-deinterleaved-interleaved =
-      gather-scatter (turned lines columns) (lines * columns) src dst (matrix-apart lines columns) (λ i l. omega (arith, matrix-within lines columns i l)) long
+      gather-scatter (matrixPlace lines columns) (lines * columns) src dst (matrix-apart lines columns) (λ i l. omega (arith, matrix-within lines columns i l)) long
 
   -- what was deinterleaved is interleaved back
   pub matrix-interleaved-deinterleaved : matrixInterleaved lines columns (matrixDeinterleaved lines columns src) dst ≡ written (take (lines * columns) src) dst
   matrix-interleaved-deinterleaved =
-      scatter-gather (turned lines columns) (lines * columns) src dst (matrix-apart lines columns) (matrix-within lines columns) (matrix-onto lines columns) long room
+      scatter-gather (matrixPlace lines columns) (lines * columns) src dst (matrix-apart lines columns) (matrix-within lines columns) (matrix-onto lines columns) long room

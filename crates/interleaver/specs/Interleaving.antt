@@ -40,8 +40,8 @@ abbrev pub deinterleaved : ℕ → ℕ → List ℕ → List ℕ
 deinterleaved k a src = gather (place k a) k src
 
 -- ---- matrix: entry j columns + i goes to i lines + j
-abbrev pub turned : ℕ → ℕ → ℕ → ℕ
-turned lines columns x = x % columns * lines + x / columns
+abbrev pub matrixPlace : ℕ → ℕ → ℕ → ℕ
+matrixPlace lines columns x = x % columns * lines + x / columns
 
 -- what is refused for src entries of source and dst of target
 abbrev pub matrixRefusal : ℕ → ℕ → ℕ → ℕ → ℕ
@@ -51,8 +51,8 @@ matrixRefusal lines columns src dst =
 
 -- the target after interleaving: each entry at its place, the rest as it was
 abbrev pub matrixInterleaved : ℕ → ℕ → List ℕ → List ℕ → List ℕ
-matrixInterleaved lines columns src dst = scatter (turned lines columns) (lines * columns) src dst
+matrixInterleaved lines columns src dst = scatter (matrixPlace lines columns) (lines * columns) src dst
 
 -- the lines * columns entries that deinterleaving writes
 abbrev pub matrixDeinterleaved : ℕ → ℕ → List ℕ → List ℕ
-matrixDeinterleaved lines columns src = gather (turned lines columns) (lines * columns) src
+matrixDeinterleaved lines columns src = gather (matrixPlace lines columns) (lines * columns) src

@@ -7,6 +7,10 @@ use Rattle.answers.specs.declared.Answer.{Answer}
 use Rattle.answers.specs.declared.Answer.the-variants.{Good, Bad, Aach, Refused}
 use Rattle.lines.specs.Text.{ascii, hex, decimal}
 
+-- no line is longer than this, at the widths that the runner's numbers have
+abbrev pub LINE : ℕ
+LINE = 80
+
 -- a word and a number
 unfoldable pub counted : List ℕ → ℕ → List ℕ
 counted word n = word ++ ascii " " ++ decimal n

@@ -1,10 +1,10 @@
 // Shared among our own crates: these ask something of their caller.
 ghost use Prim.Native.Nat.{_+_, _*_, _≤_, _<_};
 ghost use lib.ListN.{length, take};
-ghost use Rattle.lines.specs.private.Widths.{LINE};
+ghost use Rattle.lines.specs.Lines.{LINE};
 ghost use Rattle.streaming.specs.Limits.{LARGEST};
 ghost use Rattle.reading.specs.Reading.{Takes};
-ghost use Rattle.reading.specs.private.Asking.{Fits, Room};
+ghost use Rattle.reading.specs.Asking.{Fits, Room};
 ghost use Rattle.reading.specs.private.Parts.{Brings, Finishes};
 use crate::Got;
 use crate::Next;

@@ -5,7 +5,7 @@ mod ending;
 mod terminal;
 mod transfer;
 
-ghost use Rattle.reading.specs.private.Asking.{Room, Fits};
+ghost use Rattle.reading.specs.Asking.{Room, Fits};
 ghost use Rattle.runner.specs.Loop.{Ended};
 ghost use Rattle.runner.specs.private.Transfers.{Writes};
 use reading::Got;

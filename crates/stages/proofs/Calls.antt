@@ -19,7 +19,7 @@ use Rattle.trellis.proofs.Words.{zeros-bits}
 use Rattle.air.proofs.Moved.{gather-bits, scatter-bits}
 use Rattle.puncturing.specs.Puncturing.{keptPlace, needed, punctureRefusal, depunctureRefusal, punctured, depunctured}
 use Rattle.puncturing.proofs.Refusing.{puncture-accepts, depuncture-accepts}
-use Rattle.interleaver.specs.Interleaving.{place, turned, shared, blockRefusal, interleaved, deinterleaved, matrixRefusal, matrixInterleaved, matrixDeinterleaved}
+use Rattle.interleaver.specs.Interleaving.{place, matrixPlace, shared, blockRefusal, interleaved, deinterleaved, matrixRefusal, matrixInterleaved, matrixDeinterleaved}
 use Rattle.interleaver.proofs.Block.{block-apart, block-within, block-onto}
 use Rattle.interleaver.proofs.Matrix.{matrix-apart, matrix-within, matrix-onto}
 use Rattle.scrambler.specs.Scrambling.{sendRefusal, scrambled, descrambled}
@@ -102,13 +102,13 @@ module _ (lines columns : ℕ) (src dst left : List ℕ) (high : lines ≤ 4096)
       → left ≡ matrixInterleaved lines columns src (replicate (lines * columns) 0)
   matrix-whole e =
       made (matrixRefusal lines columns (length src) (length dst)) (matrixInterleaved lines columns src dst) dst left matrix-free e
-      ∙ filled (turned lines columns) (lines * columns) src dst (matrix-apart lines columns) (matrix-within lines columns) (matrix-onto lines columns) size
+      ∙ filled (matrixPlace lines columns) (lines * columns) src dst (matrix-apart lines columns) (matrix-within lines columns) (matrix-onto lines columns) size
 
   pub unmatrixed-whole : left ≡ unless (matrixRefusal lines columns (length src) (length dst)) (written (matrixDeinterleaved lines columns src) dst) dst
       → left ≡ matrixDeinterleaved lines columns src
   unmatrixed-whole =
       whole (matrixRefusal lines columns (length src) (length dst)) (matrixDeinterleaved lines columns src) dst left matrix-free
-      (gather-length (turned lines columns) (lines * columns) src ∙ sym size)
+      (gather-length (matrixPlace lines columns) (lines * columns) src ∙ sym size)
 
 -- ---- bits stay bits
 pub interleaved-bits : (k a : ℕ) (src : List ℕ) → Bits src → Bits (interleaved k a src (replicate k 0))
@@ -116,7 +116,7 @@ interleaved-bits k a src plain = scatter-bits (place k a) k src (replicate k 0) 
 
 pub matrix-bits : (lines columns : ℕ) (src : List ℕ) → Bits src → Bits (matrixInterleaved lines columns src (replicate (lines * columns) 0))
 matrix-bits lines columns src plain =
-    scatter-bits (turned lines columns) (lines * columns) src (replicate (lines * columns) 0) plain (zeros-bits (lines * columns))
+    scatter-bits (matrixPlace lines columns) (lines * columns) src (replicate (lines * columns) 0) plain (zeros-bits (lines * columns))
 
 pub punctured-bits : (mode n : ℕ) (mother : List ℕ) → Bits mother → Bits (punctured mode n mother)
 punctured-bits mode n = gather-bits (keptPlace mode) n
@@ -161,10 +161,10 @@ module _ (k a start : ℕ) (air work plain coded left : List ℕ) (limit : k ≤
 module _ (lines columns start : ℕ) (air work plain block left : List ℕ) (high : lines ≤ 4096) (wide : columns ≤ 4096) (limit : lines * columns ≤ 4096)
     (n : ℕ) (count : n ≡ lines * columns) (room : n ≤ length work) (long : n ≤ length air) (size : length block ≡ lines * columns)
     (was : plain ≡ descrambled start (take (length (take n work)) air)) where
-  pub turned-is : left ≡ unless (matrixRefusal lines columns (length (take n (plain ++ drop n work))) (length block))
+  pub matrix-place-is : left ≡ unless (matrixRefusal lines columns (length (take n (plain ++ drop n work))) (length block))
       (written (matrixDeinterleaved lines columns (take n (plain ++ drop n work))) block) block
       → left ≡ matrixDeinterleaved lines columns (descrambled start (take (lines * columns) air))
-  turned-is e =
+  matrix-place-is e =
       unmatrixed-whole lines columns (take n (plain ++ drop n work)) block left high wide limit (front-length n plain work (plain-length n start air work plain room was long) ∙ count) size e
       ∙ ap (matrixDeinterleaved lines columns) (front n plain work (plain-length n start air work plain room was long) ∙ plain-is n start air work plain room was
       ∙ ap (λ (m : ℕ). descrambled start (take m air)) count)

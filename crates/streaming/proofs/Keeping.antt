@@ -10,7 +10,7 @@ use native.Mathlib.Omega.{arith}
 use lib.ListN.{length, take, drop, getD, set, length-drop, take-append-drop}
 use lib.Seq.{take-suc, take-add, length-take-le, getD-drop, take-suc-set, drop-set-lt, drop-drop, drop-at}
 use Rattle.records.specs.Recording.{itemAt}
-use Rattle.lines.specs.private.Widths.{LINE}
+use Rattle.lines.specs.Lines.{LINE}
 use Rattle.streaming.specs.Runner.{State, holding, feed}
 use Rattle.streaming.specs.Limits.{LARGEST}
 use Rattle.streaming.specs.private.Stepping.{Waits, cameTo, Steps}

@@ -17,8 +17,7 @@ use Rattle.records.proofs.Laws.{symbols-least, item-end, step-past, is-whole, i
 use Rattle.answers.specs.declared.Answer.{Answer}
 use Rattle.answers.specs.Answering.{answerOf}
 use Rattle.lines.specs.Text.{ascii}
-use Rattle.lines.specs.Lines.{answerText, line}
-use Rattle.lines.specs.private.Widths.{LINE}
+use Rattle.lines.specs.Lines.{LINE, answerText, line}
 use Rattle.lines.specs.private.Placing.{Put}
 use Rattle.lines.proofs.Placing.{put-front}
 use Rattle.streaming.specs.Runner.{State, holding, feed}

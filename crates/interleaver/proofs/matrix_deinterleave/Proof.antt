@@ -5,7 +5,7 @@ use lib.ListN.{length}
 use Rattle.base.specs.Places.{written}
 use Rattle.interleaver.specs.Interleaving.{matrixDeinterleaved}
 use Rattle.base.proofs.Refusals.{refused, done}
-use Rattle.interleaver.proofs.Matrix.{matrix-accepted, fits-turned, matrix-back}
+use Rattle.interleaver.proofs.Matrix.{matrix-accepted, fits-matrixPlace, matrix-back}
 use Rattle.interleaver.proofs.matrix_deinterleave.Statement.{statement}
 use Rattle.interleaver.proofs.matrix_deinterleave.Tie as tie
 
@@ -21,7 +21,7 @@ returns c =
 move-lines-requires : tie.Need-move-lines-requires
 move-lines-requires c κs =
     let g = c .before .before .before .before .before .args in
-    fits-turned (g .lines) (g .columns) (length (g .input .now)) (length (g .output .now))
+    fits-matrixPlace (g .lines) (g .columns) (length (g .input .now)) (length (g .output .now))
     (matrix-accepted (g .lines) (g .columns) (length (g .input .now)) (length (g .output .now)) (sym (c .before .before .matrix-refusal .ensures) ∙ c .before .if1 .left))
 
 same-length : tie.Need-same-length

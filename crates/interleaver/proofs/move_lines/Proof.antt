@@ -8,7 +8,7 @@ use borrow.Author.Needs.{needs}
 use lib.ListN.{length}
 use Rattle.base.specs.Places.{scatter}
 use Rattle.base.proofs.Moves.{scatter-none, scatter-length}
-use Rattle.interleaver.specs.Interleaving.{turned}
+use Rattle.interleaver.specs.Interleaving.{matrixPlace}
 use Rattle.interleaver.specs.private.Lines.{MatrixFits, lineMoved}
 use Rattle.interleaver.proofs.Matrix.{line-more, pair-more}
 use Rattle.interleaver.proofs.move_lines.Statement.{statement}
@@ -16,7 +16,7 @@ use Rattle.interleaver.proofs.move_lines.Tie as tie
 
 abbrev Inv-loop : tie.InvT-loop
 Inv-loop lines columns input output₀ line₀ output line =
-    (line ≤ lines) × (length output ≡ length output₀) × (output ≡ scatter (turned lines columns) (line * columns) input output₀)
+    (line ≤ lines) × (length output ≡ length output₀) × (output ≡ scatter (matrixPlace lines columns) (line * columns) input output₀)
 
 abbrev μ-loop : tie.MeasureT-loop
 μ-loop lines columns input output₀ line₀ output line = lines - line
@@ -25,7 +25,7 @@ loop-holds : tie.Need-loop-holds Inv-loop μ-loop
 loop-holds c =
     let a = c .before .before .args in
     let none : 0 ≡ 0 * a .columns = omega (arith, zero-mul (a .columns)) in
-    (omega arith, refl, scatter-none _ _ _ ∙ ap (λ (n : ℕ). scatter (turned (a .lines) (a .columns)) n (a .input .now) (a .output .now)) none)
+    (omega arith, refl, scatter-none _ _ _ ∙ ap (λ (n : ℕ). scatter (matrixPlace (a .lines) (a .columns)) n (a .input .now) (a .output .now)) none)
 
 add-loop : tie.Need-add-loop Inv-loop μ-loop
 add-loop c = search needs
@@ -51,7 +51,7 @@ loop-again c =
     c .before .before .move-pair .ensures
     ∙ ap (λ (out : List ℕ). lineMoved (a .lines) (a .columns) (line + 1) (a .input .now) (lineMoved (a .lines) (a .columns) line (a .input .now) out)) (l .inv .2)
     ∙ pair-more (a .lines) (a .columns) line (omega arith) (a .input .now) (a .output .now) in
-    (omega arith, ap length moved ∙ scatter-length (turned (a .lines) (a .columns)) ((line + 2) * a .columns) (a .input .now) (a .output .now), moved)
+    (omega arith, ap length moved ∙ scatter-length (matrixPlace (a .lines) (a .columns)) ((line + 2) * a .columns) (a .input .now) (a .output .now), moved)
 
 move-line-requires : tie.Need-move-line-requires Inv-loop μ-loop
 move-line-requires c κs =
@@ -70,7 +70,7 @@ returns c =
     c .before .before .move-line .ensures
     ∙ ap (lineMoved (a .lines) (a .columns) (l .line) (a .input .now)) (l .inv .2)
     ∙ line-more (a .lines) (a .columns) (l .line) (omega arith) (a .input .now) (a .output .now)
-    ∙ ap (λ (n : ℕ). scatter (turned (a .lines) (a .columns)) (n * a .columns) (a .input .now) (a .output .now)) all
+    ∙ ap (λ (n : ℕ). scatter (matrixPlace (a .lines) (a .columns)) (n * a .columns) (a .input .now) (a .output .now)) all
 
 same-length-2 : tie.Need-same-length-2 Inv-loop μ-loop
 same-length-2 c = search needs
@@ -80,7 +80,7 @@ returns-2 c =
     let a = c .before .before .before .before .before .args in
     let l = c .before .before .loop in
     let all : l .line ≡ a .lines = omega arith in
-    l .inv .2 ∙ ap (λ (n : ℕ). scatter (turned (a .lines) (a .columns)) (n * a .columns) (a .input .now) (a .output .now)) all
+    l .inv .2 ∙ ap (λ (n : ℕ). scatter (matrixPlace (a .lines) (a .columns)) (n * a .columns) (a .input .now) (a .output .now)) all
 
 pub move-lines-spec : {M : Type 1} → statement M
 move-lines-spec =

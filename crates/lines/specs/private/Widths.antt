@@ -1,14 +1,10 @@
--- How long a line can get, and what stands before what is said in it.
+-- How long what is said of a record can get, and what stands before it.
 -- Assumes nothing.
 use mathlib.Core.List.{List, _++_}
 use Prim.Native.Nat.{ℕ}
 use Rattle.lines.specs.Text.{ascii, hex, decimal}
 
--- no line is longer than this, at the widths that the runner's numbers have
-abbrev pub LINE : ℕ
-LINE = 80
-
--- and what is said of a record no longer than this
+-- what is said of a record is no longer than this
 abbrev pub SAID : ℕ
 SAID = 55
 

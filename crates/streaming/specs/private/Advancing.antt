@@ -7,7 +7,7 @@ use mathlib.Core.List.{List, []}
 use Prim.Native.Nat.{ℕ, _+_, _*_, _≤_, _<_}
 use lib.ListN.{length, take}
 use Rattle.records.specs.Recording.{itemAt}
-use Rattle.lines.specs.private.Widths.{LINE}
+use Rattle.lines.specs.Lines.{LINE}
 use Rattle.streaming.specs.Runner.{holding, feed}
 use Rattle.streaming.specs.Limits.{LARGEST, LONGEST}
 use Rattle.streaming.specs.private.Stepping.{Waits, cameTo}

@@ -9,7 +9,7 @@ use lib.ListN.{length, take}
 use Rattle.records.specs.Recording.{itemAt}
 use Rattle.records.specs.declared.Item.{Item}
 use Rattle.records.specs.declared.Item.the-variants.{Whole, Unknown, Cut, End}
-use Rattle.lines.specs.private.Widths.{LINE}
+use Rattle.lines.specs.Lines.{LINE}
 use Rattle.streaming.specs.Runner.{State, holding, feed}
 use Rattle.streaming.specs.Limits.{LARGEST}
 use Rattle.streaming.specs.declared.inner.Stepped.{Stepped}

@@ -6,7 +6,7 @@ use native.Mathlib.Omega.{arith}
 use borrow.Author.Needs.{needs}
 use lib.ListN.{length, replicate}
 use lib.Seq.{length-take-le}
-use Rattle.stages.proofs.Calls.{front-room, front-length, plain-length, turned-is}
+use Rattle.stages.proofs.Calls.{front-room, front-length, plain-length, matrix-place-is}
 use Rattle.stages.proofs.inner.take_matrix_off_air.Statement.{statement}
 use Rattle.stages.proofs.inner.take_matrix_off_air.Tie as tie
 
@@ -56,7 +56,7 @@ returns c =
     let s = c .before .before .before .before .before .before .before .before .before .before in
     let d = c .before .before .before .before .before .before .descramble in
     let m = c .before .before .matrix-deinterleave in
-    turned-is (s .args .lines) (s .args .columns) (s .args .start) (s .args .air .now) work (d .last .1 .1 .0) (s .args .block .now) (m .last .1 .1 .1 .0)
+    matrix-place-is (s .args .lines) (s .args .columns) (s .args .start) (s .args .air .now) work (d .last .1 .1 .0) (s .args .block .now) (m .last .1 .1 .1 .0)
     (s .pre .0) (s .pre .1) (omega (arith, s .pre)) (length (s .args .block .now)) (s .pre .4) (omega (arith, s .pre)) (omega (arith, s .pre)) (s .pre .4) (d .ensures) (m .ensures .1)
 
 pub take-matrix-off-air-spec : {M : Type 1} → statement M

@@ -3,7 +3,7 @@
 use mathlib.Core.List.{List}
 use Prim.Native.Nat.{ℕ, _+_, _*_, _≤_, _<_}
 use lib.ListN.{length}
-use Rattle.lines.specs.private.Widths.{LINE}
+use Rattle.lines.specs.Lines.{LINE}
 use Rattle.streaming.specs.Limits.{LARGEST, LONGEST}
 use Rattle.reading.specs.declared.Got.{Got}
 use Rattle.reading.specs.declared.Turn.{Turn}
