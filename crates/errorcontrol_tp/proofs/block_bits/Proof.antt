@@ -6,52 +6,40 @@ use borrow.Author.Needs.{needs}
 use Rattle.errorcontrol_tp.proofs.block_bits.Statement.{statement}
 use Rattle.errorcontrol_tp.proofs.block_bits.Tie as tie
 
--- src/lib.rt:100:10
 sub-copy : tie.Need-sub-copy
 sub-copy c = search needs
 
--- src/lib.rt:100:10
 part-copy-start : tie.Need-part-copy-start
 part-copy-start c = search needs
 
--- src/lib.rt:100:10
 part-copy-end : tie.Need-part-copy-end
 part-copy-end c = search needs
 
--- src/lib.rt:100:28
 sub-copy-2 : tie.Need-sub-copy-2
 sub-copy-2 c = search needs
 
--- src/lib.rt:100:28
 part-block-start : tie.Need-part-block-start
 part-block-start c = search needs
 
--- src/lib.rt:100:28
 part-block-end : tie.Need-part-block-end
 part-block-end c = search needs
 
--- src/lib.rt:100:5
 copy-requires : tie.Need-copy-requires
 copy-requires c κs = search needs
 
--- src/lib.rt:101:36
 slice-aggregate-puncture : tie.Need-slice-aggregate-puncture
 slice-aggregate-puncture c = search needs
 
--- src/lib.rt:101:49
 sub-puncture : tie.Need-sub-puncture
 sub-puncture c = search needs
 
--- src/lib.rt:101:49
 part-block-start-2 : tie.Need-part-block-start-2
 part-block-start-2 c = search needs
 
--- src/lib.rt:101:49
 part-block-end-2 : tie.Need-part-block-end-2
 part-block-end-2 c =
     omega (arith, front-room (c .before .before .before .before .before .before .args .t1) (c .before .before .before .before .before .before .args .t2) (c .before .before .before .before .before .before .args .t3) (c .before .before .copy .last .1 .0) [] [] (search needs) (search needs) (search needs) (c .before .before .copy .ensures))
 
--- src/lib.rt:101:5
 puncture-requires : tie.Need-puncture-requires
 puncture-requires c κs =
     let s = c .before .before .before .before .before .before .before .args in
@@ -61,24 +49,19 @@ puncture-requires c κs =
       gap-needs (s .t1) (s .t2) (s .t3) (copy .last .1 .0) [] [] (search needs) (search needs) (search needs) (copy .ensures),
     )
 
--- src/lib.rt:102:36
 slice-aggregate-puncture-2 : tie.Need-slice-aggregate-puncture-2
 slice-aggregate-puncture-2 c = search needs
 
--- src/lib.rt:102:50
 sub-puncture-2 : tie.Need-sub-puncture-2
 sub-puncture-2 c = search needs
 
--- src/lib.rt:102:50
 part-block-start-3 : tie.Need-part-block-start-3
 part-block-start-3 c = search needs
 
--- src/lib.rt:102:50
 part-block-end-3 : tie.Need-part-block-end-3
 part-block-end-3 c =
     omega (arith, then-room (c .before .before .before .before .before .before .before .before .before .before .args .t1) (c .before .before .before .before .before .before .before .before .before .before .args .t2) (c .before .before .before .before .before .before .before .before .before .before .args .t3) (c .before .before .before .before .before .before .copy .last .1 .0) (c .before .before .puncture .last .1 .1 .0) [] (search needs) (search needs) (search needs) (c .before .before .before .before .before .before .copy .ensures) (c .before .before .puncture .ensures))
 
--- src/lib.rt:102:5
 puncture-requires-2 : tie.Need-puncture-requires-2
 puncture-requires-2 c κs =
     let s = c .before .before .before .before .before .before .before .before .before .before .before .args in
@@ -89,7 +72,6 @@ puncture-requires-2 c κs =
       rest-needs (s .t1) (s .t2) (s .t3) (copy .last .1 .0) (p .last .1 .1 .0) [] (search needs) (search needs) (search needs) (copy .ensures) (p .ensures),
     )
 
--- src/lib.rt:96:1
 returns : tie.Need-returns
 returns c =
     let a = c .before .before .before .before .before .before .before .before .before .before .before .before .before .args in

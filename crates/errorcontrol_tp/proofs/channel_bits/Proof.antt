@@ -9,15 +9,12 @@ use borrow.Author.Needs.{needs}
 use Rattle.errorcontrol_tp.proofs.channel_bits.Statement.{statement}
 use Rattle.errorcontrol_tp.proofs.channel_bits.Tie as tie
 
--- src/lib.rt:55:42
 slice-aggregate-codec-to-channel : tie.Need-slice-aggregate-codec-to-channel
 slice-aggregate-codec-to-channel c = search needs
 
--- src/lib.rt:55:5
 codec-to-channel-requires : tie.Need-codec-to-channel-requires
 codec-to-channel-requires c κs = search needs
 
--- src/lib.rt:50:1
 returns : tie.Need-returns
 returns c =
     let codec = c .before .before .before .before .args .codec .now in

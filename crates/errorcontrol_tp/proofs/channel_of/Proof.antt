@@ -5,51 +5,39 @@ use borrow.Author.Needs.{needs}
 use Rattle.errorcontrol_tp.proofs.channel_of.Statement.{statement}
 use Rattle.errorcontrol_tp.proofs.channel_of.Tie as tie
 
--- src/lib.rt:119:16
 uncoded-bits-requires : tie.Need-uncoded-bits-requires
 uncoded-bits-requires c κs = search needs
 
--- src/lib.rt:121:10
 slice-aggregate-copy : tie.Need-slice-aggregate-copy
 slice-aggregate-copy c = search needs
 
--- src/lib.rt:121:17
 sub-copy : tie.Need-sub-copy
 sub-copy c = search needs
 
--- src/lib.rt:121:17
 part-channel-start : tie.Need-part-channel-start
 part-channel-start c = search needs
 
--- src/lib.rt:121:17
 part-channel-end : tie.Need-part-channel-end
 part-channel-end c = search needs
 
--- src/lib.rt:121:5
 copy-requires : tie.Need-copy-requires
 copy-requires c κs = search needs
 
--- src/lib.rt:122:10
 sub-copy-2 : tie.Need-sub-copy-2
 sub-copy-2 c = search needs
 
--- src/lib.rt:122:10
 part-copy-start : tie.Need-part-copy-start
 part-copy-start c = search needs
 
--- src/lib.rt:122:10
 part-copy-end : tie.Need-part-copy-end
 part-copy-end c = search needs
 
--- src/lib.rt:122:25
 sub-copy-3 : tie.Need-sub-copy-3
 sub-copy-3 c = search needs
 
--- src/lib.rt:122:25
 part-channel-start-2 : tie.Need-part-channel-start-2
 part-channel-start-2 c = search needs
 
--- src/lib.rt:122:25
 part-channel-end-2 : tie.Need-part-channel-end-2
 part-channel-end-2 c =
     let a = c .before .before .before .before .before .before .before in
@@ -59,11 +47,9 @@ part-channel-end-2 c =
           (c .before .before .before .before .before .before .uncoded-bits .ensures) (c .before .before .before .copy .ensures),
     )
 
--- src/lib.rt:122:5
 copy-requires-2 : tie.Need-copy-requires-2
 copy-requires-2 c κs = search needs
 
--- src/lib.rt:116:1
 returns : tie.Need-returns
 returns c =
     let a = c .before .before .before .before .before .before .before .before .before .before in

@@ -6,64 +6,49 @@ use borrow.Author.Needs.{needs}
 use Rattle.errorcontrol_tp.proofs.class2_bits.Statement.{statement}
 use Rattle.errorcontrol_tp.proofs.class2_bits.Tie as tie
 
--- src/lib.rt:64:10
 sub-copy : tie.Need-sub-copy
 sub-copy c = search needs
 
--- src/lib.rt:64:10
 part-copy-start : tie.Need-part-copy-start
 part-copy-start c = search needs
 
--- src/lib.rt:64:10
 part-copy-end : tie.Need-part-copy-end
 part-copy-end c = search needs
 
--- src/lib.rt:64:30
 sub-copy-2 : tie.Need-sub-copy-2
 sub-copy-2 c = search needs
 
--- src/lib.rt:64:30
 part-word-start : tie.Need-part-word-start
 part-word-start c = search needs
 
--- src/lib.rt:64:30
 part-word-end : tie.Need-part-word-end
 part-word-end c = search needs
 
--- src/lib.rt:64:5
 copy-requires : tie.Need-copy-requires
 copy-requires c κs = search needs
 
--- src/lib.rt:65:28
 sub-speech-crc : tie.Need-sub-speech-crc
 sub-speech-crc c = search needs
 
--- src/lib.rt:65:28
 part-speech-crc-start : tie.Need-part-speech-crc-start
 part-speech-crc-start c = search needs
 
--- src/lib.rt:65:28
 part-speech-crc-end : tie.Need-part-speech-crc-end
 part-speech-crc-end c = search needs
 
--- src/lib.rt:65:48
 sub-speech-crc-2 : tie.Need-sub-speech-crc-2
 sub-speech-crc-2 c = search needs
 
--- src/lib.rt:65:48
 part-word-start-2 : tie.Need-part-word-start-2
 part-word-start-2 c = search needs
 
--- src/lib.rt:65:48
 part-word-end-2 : tie.Need-part-word-end-2
 part-word-end-2 c =
     omega (arith, room (c .before .before .before .before .before .before .before .args .t1) (c .before .before .before .copy .last .1 .0) [] (search needs) (c .before .before .before .copy .ensures))
 
--- src/lib.rt:65:5
 speech-crc-requires : tie.Need-speech-crc-requires
 speech-crc-requires c κs = search needs
 
--- src/lib.rt:60:1
 returns : tie.Need-returns
 returns c =
     let channel = c .before .before .before .before .before .before .before .before .before .before .args .t1 in

@@ -10,46 +10,37 @@ use borrow.Author.Needs.{needs}
 use Rattle.errorcontrol_tp.proofs.decode_tp.Statement.{statement}
 use Rattle.errorcontrol_tp.proofs.decode_tp.Tie as tie
 
--- src/lib.rt:266:9
 receive-refusal-requires : tie.Need-receive-refusal-requires
 receive-refusal-requires c κs = search needs
 
--- src/lib.rt:268:9
 returns : tie.Need-returns
 returns c =
     let a = c .before .before .before .before .before .args in
     receives-refused (good (wordFrom 432 (a .start) (a .air .now))) (countsOf 432 (a .start) (a .air .now)) (c .before .receive-refusal .result) (c .before .receive-refusal .ensures) (c .if1 .taken)
 
--- src/lib.rt:270:20
 sub-receive : tie.Need-sub-receive
 sub-receive c = search needs
 
--- src/lib.rt:270:20
 part-receive-start : tie.Need-part-receive-start
 part-receive-start c = search needs
 
--- src/lib.rt:270:20
 part-receive-end : tie.Need-part-receive-end
 part-receive-end c =
     let a = c .before .before .before .before .before .args in
     receive-accepted 432 (length (a .air .now)) (length (a .codec .now)) (length (a .trellis .now)) (sym (c .before .receive-refusal .ensures) ∙ c .if1 .left) .long
 
--- src/lib.rt:270:5
 receive-requires : tie.Need-receive-requires
 receive-requires c κs =
     let a = c .before .before .before .before .before .before .before .before .args in
     let ok = receive-accepted 432 (length (a .air .now)) (length (a .codec .now)) (length (a .trellis .now)) (sym (c .before .before .before .before .receive-refusal .ensures) ∙ c .before .before .before .if1 .left) in
     (length-take-le 432 (a .air .now) (ok .long), ok .room, ok .steps)
 
--- src/lib.rt:263:1
 same-length : tie.Need-same-length
 same-length c = search needs
 
--- src/lib.rt:263:1
 same-length-2 : tie.Need-same-length-2
 same-length-2 c = search needs
 
--- src/lib.rt:263:1
 returns-2 : tie.Need-returns-2
 returns-2 c =
     let a = c .before .before .before .before .before .before .before .before .before .before .before .before .before .args in

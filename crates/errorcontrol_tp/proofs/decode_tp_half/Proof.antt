@@ -10,69 +10,55 @@ use borrow.Author.Needs.{needs}
 use Rattle.errorcontrol_tp.proofs.decode_tp_half.Statement.{statement}
 use Rattle.errorcontrol_tp.proofs.decode_tp_half.Tie as tie
 
--- src/lib.rt:277:9
 receive-refusal-requires : tie.Need-receive-refusal-requires
 receive-refusal-requires c κs = search needs
 
--- src/lib.rt:279:9
 returns : tie.Need-returns
 returns c =
     let a = c .before .before .before .before .before .args in
     receives-refused (good (wordFrom 216 (a .start) (a .air .now))) (countsOf 216 (a .start) (a .air .now)) (c .before .receive-refusal .result) (c .before .receive-refusal .ensures) (c .if1 .taken)
 
--- src/lib.rt:282:10
 sub-copy : tie.Need-sub-copy
 sub-copy c = search needs
 
--- src/lib.rt:282:10
 part-copy-start : tie.Need-part-copy-start
 part-copy-start c = search needs
 
--- src/lib.rt:282:10
 part-copy-end : tie.Need-part-copy-end
 part-copy-end c =
     let a = c .before .before .before .before .before .args in
     receive-accepted 216 (length (a .air .now)) (length (a .codec .now)) (length (a .trellis .now)) (sym (c .before .receive-refusal .ensures) ∙ c .if1 .left) .long
 
--- src/lib.rt:282:24
 sub-copy-2 : tie.Need-sub-copy-2
 sub-copy-2 c = search needs
 
--- src/lib.rt:282:24
 part-symbols-start : tie.Need-part-symbols-start
 part-symbols-start c = search needs
 
--- src/lib.rt:282:24
 part-symbols-end : tie.Need-part-symbols-end
 part-symbols-end c = search needs
 
--- src/lib.rt:282:5
 copy-requires : tie.Need-copy-requires
 copy-requires c κs = search needs
 
--- src/lib.rt:283:20
 slice-aggregate-receive : tie.Need-slice-aggregate-receive
 slice-aggregate-receive c =
     let a = c .before .before .before .before .before .before .before .before .before .before .args in
     let ok = receive-accepted 216 (length (a .air .now)) (length (a .codec .now)) (length (a .trellis .now)) (sym (c .before .before .before .before .before .before .receive-refusal .ensures) ∙ c .before .before .before .before .before .if1 .left) in
     sym (ap length (half-made (a .air .now) (c .before .before .copy .last .1 .0) (ok .long) (c .before .before .copy .ensures)) ∙ slot-whole 216 (a .air .now) (omega arith) (ok .long))
 
--- src/lib.rt:283:5
 receive-requires : tie.Need-receive-requires
 receive-requires c κs =
     let a = c .before .before .before .before .before .before .before .before .before .before .before .before .args in
     let ok = receive-accepted 216 (length (a .air .now)) (length (a .codec .now)) (length (a .trellis .now)) (sym (c .before .before .before .before .before .before .before .before .receive-refusal .ensures) ∙ c .before .before .before .before .before .before .before .if1 .left) in
     (ap length (half-made (a .air .now) (c .before .before .before .before .copy .last .1 .0) (ok .long) (c .before .before .before .before .copy .ensures)) ∙ slot-whole 216 (a .air .now) (omega arith) (ok .long), ok .room, ok .steps)
 
--- src/lib.rt:274:1
 same-length : tie.Need-same-length
 same-length c = search needs
 
--- src/lib.rt:274:1
 same-length-2 : tie.Need-same-length-2
 same-length-2 c = search needs
 
--- src/lib.rt:274:1
 returns-2 : tie.Need-returns-2
 returns-2 c =
     let a = c .before .before .before .before .before .before .before .before .before .before .before .before .before .before .before .before .before .args in

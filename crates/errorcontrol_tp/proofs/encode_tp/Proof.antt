@@ -12,48 +12,38 @@ use borrow.Author.Needs.{needs}
 use Rattle.errorcontrol_tp.proofs.encode_tp.Statement.{statement}
 use Rattle.errorcontrol_tp.proofs.encode_tp.Tie as tie
 
--- src/lib.rt:240:9
 send-refusal-requires : tie.Need-send-refusal-requires
 send-refusal-requires c κs = search needs
 
--- src/lib.rt:242:9
 returns : tie.Need-returns
 returns c = sends-refused (c .before .send-refusal .result) (c .before .send-refusal .ensures) (c .if1 .taken)
 
--- src/lib.rt:244:19
 send-requires : tie.Need-send-requires
 send-requires c κs =
     let a = c .before .before .before .before .args in
     let ok = send-accepted 432 (a .codec .now) (length (a .air .now)) (sym (c .before .send-refusal .ensures) ∙ c .if1 .left) in
     (ok .long, ok .plain)
 
--- src/lib.rt:245:10
 slice-aggregate-copy : tie.Need-slice-aggregate-copy
 slice-aggregate-copy c = search needs
 
--- src/lib.rt:245:20
 sub-copy : tie.Need-sub-copy
 sub-copy c = search needs
 
--- src/lib.rt:245:20
 part-copy-start : tie.Need-part-copy-start
 part-copy-start c = search needs
 
--- src/lib.rt:245:20
 part-copy-end : tie.Need-part-copy-end
 part-copy-end c =
     let a = c .before .before .before .before .before .before .args in
     send-accepted 432 (a .codec .now) (length (a .air .now)) (sym (c .before .before .before .send-refusal .ensures) ∙ c .before .before .if1 .left) .room
 
--- src/lib.rt:245:5
 copy-requires : tie.Need-copy-requires
 copy-requires c κs = search needs
 
--- src/lib.rt:237:1
 same-length : tie.Need-same-length
 same-length c = search needs
 
--- src/lib.rt:237:1
 returns-2 : tie.Need-returns-2
 returns-2 c =
     let a = c .before .before .before .before .before .before .before .before .before .before .args in

@@ -15,56 +15,44 @@ use borrow.Author.Needs.{needs}
 use Rattle.errorcontrol_tp.proofs.encode_tp_half.Statement.{statement}
 use Rattle.errorcontrol_tp.proofs.encode_tp_half.Tie as tie
 
--- src/lib.rt:253:9
 send-refusal-requires : tie.Need-send-refusal-requires
 send-refusal-requires c κs = search needs
 
--- src/lib.rt:255:9
 returns : tie.Need-returns
 returns c = sends-refused (c .before .send-refusal .result) (c .before .send-refusal .ensures) (c .if1 .taken)
 
--- src/lib.rt:257:19
 send-requires : tie.Need-send-requires
 send-requires c κs =
     let a = c .before .before .before .before .args in
     let ok = send-accepted 216 (a .codec .now) (length (a .air .now)) (sym (c .before .send-refusal .ensures) ∙ c .if1 .left) in
     (ok .long, ok .plain)
 
--- src/lib.rt:258:10
 sub-copy : tie.Need-sub-copy
 sub-copy c = search needs
 
--- src/lib.rt:258:10
 part-copy-start : tie.Need-part-copy-start
 part-copy-start c = search needs
 
--- src/lib.rt:258:10
 part-copy-end : tie.Need-part-copy-end
 part-copy-end c = search needs
 
--- src/lib.rt:258:30
 sub-copy-2 : tie.Need-sub-copy-2
 sub-copy-2 c = search needs
 
--- src/lib.rt:258:30
 part-copy-start-2 : tie.Need-part-copy-start-2
 part-copy-start-2 c = search needs
 
--- src/lib.rt:258:30
 part-copy-end-2 : tie.Need-part-copy-end-2
 part-copy-end-2 c =
     let a = c .before .before .before .before .before .before .before .args in
     send-accepted 216 (a .codec .now) (length (a .air .now)) (sym (c .before .before .before .before .send-refusal .ensures) ∙ c .before .before .before .if1 .left) .room
 
--- src/lib.rt:258:5
 copy-requires : tie.Need-copy-requires
 copy-requires c κs = search needs
 
--- src/lib.rt:250:1
 same-length : tie.Need-same-length
 same-length c = search needs
 
--- src/lib.rt:250:1
 returns-2 : tie.Need-returns-2
 returns-2 c =
     let a = c .before .before .before .before .before .before .before .before .before .before .before .args in

@@ -7,37 +7,29 @@ use borrow.Author.Needs.{needs}
 use Rattle.errorcontrol_tp.proofs.encode_word.Statement.{statement}
 use Rattle.errorcontrol_tp.proofs.encode_word.Tie as tie
 
--- src/lib.rt:91:33
 sub-encode-both : tie.Need-sub-encode-both
 sub-encode-both c = search needs
 
--- src/lib.rt:91:33
 part-encode-both-start : tie.Need-part-encode-both-start
 part-encode-both-start c = search needs
 
--- src/lib.rt:91:33
 part-encode-both-end : tie.Need-part-encode-both-end
 part-encode-both-end c = search needs
 
--- src/lib.rt:91:53
 slice-aggregate-encode-both : tie.Need-slice-aggregate-encode-both
 slice-aggregate-encode-both c = search needs
 
--- src/lib.rt:91:62
 slice-aggregate-encode-both-2 : tie.Need-slice-aggregate-encode-both-2
 slice-aggregate-encode-both-2 c = search needs
 
--- src/lib.rt:91:74
 slice-aggregate-encode-both-3 : tie.Need-slice-aggregate-encode-both-3
 slice-aggregate-encode-both-3 c = search needs
 
--- src/lib.rt:91:5
 encode-both-requires : tie.Need-encode-both-requires
 encode-both-requires c κs =
     let a = c .before .before .before .before .before in
     both-accepted (a .args .t1) (a .args .t2) (search needs) (a .pre .0) (search needs) (a .pre .1) 336 216 (omega arith) (omega arith)
 
--- src/lib.rt:85:1
 returns : tie.Need-returns
 returns c =
     let a = c .before .before .before .before .before .before .before .before in

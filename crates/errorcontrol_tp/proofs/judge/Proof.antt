@@ -13,39 +13,30 @@ use borrow.Author.Needs.{needs}
 use Rattle.errorcontrol_tp.proofs.judge.Statement.{statement}
 use Rattle.errorcontrol_tp.proofs.judge.Tie as tie
 
--- src/lib.rt:146:28
 sub-speech-crc : tie.Need-sub-speech-crc
 sub-speech-crc c = search needs
 
--- src/lib.rt:146:28
 part-speech-crc-start : tie.Need-part-speech-crc-start
 part-speech-crc-start c = search needs
 
--- src/lib.rt:146:28
 part-speech-crc-end : tie.Need-part-speech-crc-end
 part-speech-crc-end c = search needs
 
--- src/lib.rt:146:45
 slice-aggregate-speech-crc : tie.Need-slice-aggregate-speech-crc
 slice-aggregate-speech-crc c = search needs
 
--- src/lib.rt:146:5
 speech-crc-requires : tie.Need-speech-crc-requires
 speech-crc-requires c κs = search needs
 
--- src/lib.rt:147:16
 sub-same-check : tie.Need-sub-same-check
 sub-same-check c = search needs
 
--- src/lib.rt:147:16
 part-same-check-start : tie.Need-part-same-check-start
 part-same-check-start c = search needs
 
--- src/lib.rt:147:16
 part-same-check-end : tie.Need-part-same-check-end
 part-same-check-end c = search needs
 
--- src/lib.rt:147:5
 slice-aggregate-same-check : tie.Need-slice-aggregate-same-check
 slice-aggregate-same-check c = search needs
 

@@ -3,11 +3,9 @@ use Rattle.errorcontrol_tp.proofs.Parts.{read-one, read-other}
 use Rattle.errorcontrol_tp.proofs.read_bit.Statement.{statement}
 use Rattle.errorcontrol_tp.proofs.read_bit.Tie as tie
 
--- src/lib.rt:96:1
 returns : tie.Need-returns
 returns c = read-one (c .before .args .symbol) (c .if1 .taken)
 
--- src/lib.rt:96:1
 returns-2 : tie.Need-returns-2
 returns-2 c = read-other (c .before .args .symbol) (c .if1 .left)
 

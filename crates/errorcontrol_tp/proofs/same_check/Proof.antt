@@ -15,39 +15,31 @@ Inv-loop a b i₀ i = (i ≤ 8) × ((k : ℕ) → k < i → getD a k 0 ≡ getD 
 abbrev μ-loop : tie.MeasureT-loop
 μ-loop a b i₀ i = 8 - i
 
--- src/lib.rt:127:5
 loop-holds : tie.Need-loop-holds Inv-loop μ-loop
 loop-holds c = (omega arith, λ k h. absurd (omega arith))
 
--- src/lib.rt:128:12
 shared-slice-read-if1 : tie.Need-shared-slice-read-if1 Inv-loop μ-loop
 shared-slice-read-if1 c = search needs
 
--- src/lib.rt:128:20
 shared-slice-read-if1-2 : tie.Need-shared-slice-read-if1-2 Inv-loop μ-loop
 shared-slice-read-if1-2 c = search needs
 
--- src/lib.rt:129:13
 returns : tie.Need-returns Inv-loop μ-loop
 returns c =
     let a = c .before .before .before .before .before .args in
     sym (same-none (a .a .now) (a .b .now) (c .before .before .before .before .loop .i) (omega (arith, c .before .before .before .before .before .pre)) (c .before .before .before .before .before .pre .0 ∙ sym (c .before .before .before .before .before .pre .1)) (c .if1 .taken))
 
--- src/lib.rt:131:9
 add-i : tie.Need-add-i Inv-loop μ-loop
 add-i c = search needs
 
--- src/lib.rt:127:5
 loop-less : tie.Need-loop-less Inv-loop μ-loop
 loop-less c = search needs
 
--- src/lib.rt:127:5
 loop-again : tie.Need-loop-again Inv-loop μ-loop
 loop-again c =
     let l = c .before .before .before .before .loop in
     (omega arith, below-more _ _ (l .inv .1) (c .if1 .left))
 
--- src/lib.rt:122:1
 returns-2 : tie.Need-returns-2 Inv-loop μ-loop
 returns-2 c =
     let a = c .before .before .args in

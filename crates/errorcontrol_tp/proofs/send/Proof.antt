@@ -9,26 +9,21 @@ use borrow.Author.Needs.{needs}
 use Rattle.errorcontrol_tp.proofs.send.Statement.{statement}
 use Rattle.errorcontrol_tp.proofs.send.Tie as tie
 
--- src/lib.rt:235:9
 channel-bits-requires : tie.Need-channel-bits-requires
 channel-bits-requires c κs = search needs
 
--- src/lib.rt:236:40
 class2-bits-requires : tie.Need-class2-bits-requires
 class2-bits-requires c κs = search needs
 
--- src/lib.rt:236:9
 encode-word-requires : tie.Need-encode-word-requires
 encode-word-requires c κs =
     let a = c .before .before .before in
     let plain = subst (λ (l : List ℕ). Bits l) (sym (c .before .channel-bits .ensures)) (channel-plain (a .args .codec .now) (a .pre .0) (a .pre .1)) in
     (plain, class2-plain (c .before .channel-bits .result) (c .class2-bits .result) plain (c .class2-bits .ensures))
 
--- src/lib.rt:239:21
 block-bits-requires : tie.Need-block-bits-requires
 block-bits-requires c κs = search needs
 
--- src/lib.rt:239:5
 put-on-air-requires : tie.Need-put-on-air-requires
 put-on-air-requires c κs =
     let a = c .before .before .before .before .before .before .before in
@@ -39,7 +34,6 @@ put-on-air-requires c κs =
     (sym (block-is (channel .result) (c .before .before .before .before .class2-bits .result) (mothers .result .first) (mothers .result .second) (c .block-bits .result) (search needs) (c .before .before .before .before .class2-bits .ensures) (mothers .ensures) (c .block-bits .ensures)))
     (block-plain (channel .result) (search needs) plain)
 
--- src/lib.rt:231:1
 returns : tie.Need-returns
 returns c =
     let a = c .before .before .before .before .before .before .before .before .args in

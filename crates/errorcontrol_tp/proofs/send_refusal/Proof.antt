@@ -5,25 +5,20 @@ use borrow.Author.Needs.{needs}
 use Rattle.errorcontrol_tp.proofs.send_refusal.Statement.{statement}
 use Rattle.errorcontrol_tp.proofs.send_refusal.Tie as tie
 
--- src/lib.rt:20:9
 returns : tie.Need-returns
 returns c = rw (lt-ltb _ _ (c .if1 .taken))
 
--- src/lib.rt:23:9
 returns-2 : tie.Need-returns-2
 returns-2 c = rw (le-ltb _ _ (c .before .if1 .left), lt-ltb _ _ (c .if2 .taken))
 
--- src/lib.rt:25:8
 bits-only-requires : tie.Need-bits-only-requires
 bits-only-requires c κs = search needs
 
--- src/lib.rt:26:9
 returns-3 : tie.Need-returns-3
 returns-3 c =
     let plain = sym (c .before .bits-only .ensures) ∙ c .if3 .taken in
     rw (le-ltb _ _ (c .before .before .before .if1 .left), le-ltb _ _ (c .before .before .if2 .left), plain)
 
--- src/lib.rt:16:1
 returns-4 : tie.Need-returns-4
 returns-4 c =
     let other = sym (c .before .bits-only .ensures) ∙ c .if3 .left in

@@ -18,31 +18,24 @@ Inv-loop block bits₀ i₀ bits i = (i ≤ 102) × (bits ≡ written (tabulate 
 abbrev μ-loop : tie.MeasureT-loop
 μ-loop block bits₀ i₀ bits i = 102 - i
 
--- src/lib.rt:108:5
 loop-holds : tie.Need-loop-holds Inv-loop μ-loop
 loop-holds c = (omega arith, write-none (λ j. readBit (getD (c .args .t1) j 0)) (replicate 102 0))
 
--- src/lib.rt:109:28
 array-read-read-bit : tie.Need-array-read-read-bit Inv-loop μ-loop
 array-read-read-bit c = search needs
 
--- src/lib.rt:109:19
 read-bit-requires : tie.Need-read-bit-requires Inv-loop μ-loop
 read-bit-requires c κs = search needs
 
--- src/lib.rt:109:9
 array-write-bits : tie.Need-array-write-bits Inv-loop μ-loop
 array-write-bits c = search needs
 
--- src/lib.rt:110:9
 add-i : tie.Need-add-i Inv-loop μ-loop
 add-i c = search needs
 
--- src/lib.rt:108:5
 loop-less : tie.Need-loop-less Inv-loop μ-loop
 loop-less c = search needs
 
--- src/lib.rt:108:5
 loop-again : tie.Need-loop-again Inv-loop μ-loop
 loop-again c =
     let l = c .before .before .loop in
@@ -52,7 +45,6 @@ loop-again c =
           ∙ write-more (λ j. readBit (getD block j 0)) (l .i) (replicate 102 0) (omega (arith, length-replicate {A = ℕ} 102 0)),
     )
 
--- src/lib.rt:103:1
 returns : tie.Need-returns Inv-loop μ-loop
 returns c =
     let l = c .before .loop in
