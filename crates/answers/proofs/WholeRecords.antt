@@ -17,7 +17,6 @@ use Rattle.errorcontrol_aach.specs.Receiving.{verdictFrom}
 use Rattle.errorcontrol_cp.specs.Kinds.{isKind, wordBits, airSymbols}
 use Rattle.errorcontrol_cp.specs.Receiving as control
 use Rattle.errorcontrol_tp.specs.Receiving as speech
-use Rattle.answers.specs.private.Chains.{controlAnswer, speechAnswer}
 use Rattle.answers.specs.Answering.{ofReceived, ofJudged, startOf, chainOf, answerOf}
 use Rattle.answers.specs.declared.Answer.the-variants.{Refused}
 
@@ -33,14 +32,13 @@ judged-not-short true v f = let z : _≡_ {A = ℕ} 0 1 = cc in omega arith
 judged-not-short false v f = let z : _≡_ {A = ℕ} BIT SHORT = cc in omega arith
 
 module _ (start : ℕ) (air : List ℕ) where
-  control-not-short : (kind : ℕ) → control.receiveRefusal kind (length air) 288 288 ≡ accepted → ofReceived (controlAnswer kind start air) ≡ Refused SHORT → ⊥
-  unfolding controlAnswer
+  control-not-short : (kind : ℕ) → control.receiveRefusal kind (length air) 288 288 ≡ accepted → ofReceived (control.answerOf kind start air 288 288) ≡ Refused SHORT → ⊥
   control-not-short kind e =
       heard-not-short (control.receiveRefusal kind (length air) 288 288) (control.good kind (control.wordFrom kind start air)) (control.countsOf kind start air) e
 
   -- ---- as many symbols as the record's kind says
   pub chain-not-short : (kind : ℕ) → (symbolsOf kind ≡ 0 → ⊥) → length air ≡ symbolsOf kind → chainOf kind start air ≡ Refused SHORT → ⊥
-  unfolding symbolsOf chainOf speechAnswer isKind wordBits airSymbols
+  unfolding symbolsOf chainOf isKind wordBits airSymbols
   chain-not-short zero k e = absurd (k refl)
   chain-not-short (suc zero) k e = control-not-short 1 (ap (λ (n : ℕ). control.receiveRefusal 1 n 288 288) e)
   chain-not-short (suc (suc zero)) k e = control-not-short 2 (ap (λ (n : ℕ). control.receiveRefusal 2 n 288 288) e)
@@ -58,7 +56,7 @@ module _ (start : ℕ) (air : List ℕ) where
 
   -- ---- fewer
   pub chain-short : (kind : ℕ) → length air < symbolsOf kind → chainOf kind start air ≡ Refused SHORT
-  unfolding symbolsOf chainOf controlAnswer speechAnswer isKind airSymbols
+  unfolding symbolsOf chainOf isKind airSymbols
   chain-short zero h = absurd (omega arith)
   chain-short (suc zero) h = rw (lt-ltb (length air) 120 h)
   chain-short (suc (suc zero)) h = rw (lt-ltb (length air) 168 h)
