@@ -14,7 +14,7 @@ fn first_of(s: &[u8], i: usize, other: u8) -> u8 {
 }
 
 // A target with n entries filled; its front is the lent slice, if one is lent.
-pub fn target(seed: u8, lent: &[u8], n: usize) -> [u8; 65536]
+pub fn filled(seed: u8, lent: &[u8], n: usize) -> [u8; 65536]
     requires { ⌜ n ≤ 65536 ⌝ }
     ensures { λ r. ⌜ length r ≡ 65536 ⌝ }
 {

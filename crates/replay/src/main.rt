@@ -46,7 +46,7 @@ fn repeated(a: Numbers, h: Head, source: &[u8], written: &[u8]) -> bool {
     if 65536 < n {
         return false;
     }
-    let before = before::target(h.seed, &source[..k], n);
+    let before = before::filled(h.seed, &source[..k], n);
     let mut target = before;
     let mut said = [0u64; 6];
     let refusal = asked::refusal(a, h, source, &mut target[..n], &mut said);

@@ -13,11 +13,11 @@ target-length-requires c κs = search needs
 returns : tie.Need-returns
 returns c = search needs
 
-slice-aggregate-target : tie.Need-slice-aggregate-target
-slice-aggregate-target c = sym (length-take-le _ _ (search needs))
+slice-aggregate-filled : tie.Need-slice-aggregate-filled
+slice-aggregate-filled c = sym (length-take-le _ _ (search needs))
 
-target-requires : tie.Need-target-requires
-target-requires c κs = search needs
+filled-requires : tie.Need-filled-requires
+filled-requires c κs = search needs
 
 array-borrow-prefix-target : tie.Need-array-borrow-prefix-target
 array-borrow-prefix-target c = search needs
@@ -44,8 +44,8 @@ repeated-spec =
     lent-requires
     target-length-requires
     returns
-    slice-aggregate-target
-    target-requires
+    slice-aggregate-filled
+    filled-requires
     array-borrow-prefix-target
     slice-aggregate-refusal
     refusal-requires
