@@ -2,14 +2,14 @@
 -- Assumes nothing.
 use mathlib.Core.Path.{_≡_, refl, subst}
 use mathlib.Core.List.{List, [], _∷_}
-use mathlib.Core.Bool.{true, false, not}
+use mathlib.Core.Bool.{true, not}
 use Prim.Native.Nat.{ℕ, _*_, _≤_, _<_}
 use native.Mathlib.Nat.{mul-zero}
 use native.Mathlib.Omega.{arith}
 use lib.Dec.{ltb}
 use lib.ListN.{length}
 use lib.Seq.{take-length}
-use borrow.Author.Tests.{ltb-false, not-false, lt-ltb, le-ltb}
+use borrow.Author.Tests.{ltb-false, not-false, le-ltb}
 use Rattle.base.specs.Bits.{Bits, bitsOnly}
 use Rattle.base.specs.Refusal.{LIMIT, ROOM, BIT, accepted, when}
 use Rattle.base.proofs.BitLaws.{bits-only-bits}
@@ -53,26 +53,10 @@ pub refusal-some : (rate : ℕ) (d src : List ℕ) (dst : ℕ) → (length src �
 refusal-some rate d [] dst h = absurd (h refl)
 refusal-some rate d (b ∷ src) dst h = refl
 
-module _ (rate : ℕ) (d src : List ℕ) (dst : ℕ) (some : length src ≡ 0 → ⊥) where
-  pub refuses-limit : 4096 < length src → LIMIT ≡ encodeRefusal rate d src dst
-  refuses-limit limit = rw (refusal-some rate d src dst some, lt-ltb 4096 (length src) limit)
-
-  module _ (limit : length src ≤ 4096) where
-    pub refuses-room : dst < rate * length src → ROOM ≡ encodeRefusal rate d src dst
-    refuses-room room = rw (refusal-some rate d src dst some, le-ltb 4096 (length src) limit, lt-ltb dst (rate * length src) room)
-
-    module _ (room : rate * length src ≤ dst) where
-      fits : encodeRefusal rate d src dst ≡ when (not (bitsOnly (length src) src)) BIT (when (not (bitsOnly 4 d)) BIT accepted)
-      fits = rw (refusal-some rate d src dst some, le-ltb 4096 (length src) limit, le-ltb dst (rate * length src) room)
-
-      pub refuses-input : bitsOnly (length src) src ≡ false → BIT ≡ encodeRefusal rate d src dst
-      refuses-input input = rw (fits, input)
-
-      pub refuses-delayed : bitsOnly (length src) src ≡ true → bitsOnly 4 d ≡ false → BIT ≡ encodeRefusal rate d src dst
-      refuses-delayed input delayed = rw (fits, input, delayed)
-
-      pub refuses-none : bitsOnly (length src) src ≡ true → bitsOnly 4 d ≡ true → accepted ≡ encodeRefusal rate d src dst
-      refuses-none input delayed = rw (fits, input, delayed)
+pub refuses-none : (rate : ℕ) (d src : List ℕ) (dst : ℕ) → (length src ≡ 0 → ⊥) → length src ≤ 4096 → rate * length src ≤ dst
+    → bitsOnly (length src) src ≡ true → bitsOnly 4 d ≡ true → accepted ≡ encodeRefusal rate d src dst
+refuses-none rate d src dst some limit room input delayed =
+    rw (refusal-some rate d src dst some, le-ltb 4096 (length src) limit, le-ltb dst (rate * length src) room, input, delayed)
 
 -- ---- an entry's promise, by whether it refuses
 pub encoded-refused : (code : List (List ℕ)) (d src dst : List ℕ) (n : ℕ) → n ≡ encodeRefusal (length code) d src (length dst) → (n ≡ 0 → ⊥)
