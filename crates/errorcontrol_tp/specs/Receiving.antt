@@ -40,7 +40,7 @@ wordFrom count start air = decoded speech 184 (motherOf (blockOf start (slotOf c
 unfoldable pub countsOf : ℕ → ℕ → List ℕ → Counts
 countsOf count start air = record { disagreements = disagreements speech 184 (motherOf (blockOf start (slotOf count air))) (wordFrom count start air) }
 
--- whether the eight check bits of a word are, entry by entry, the check of its 60 bits of class 2
+-- whether the eight check bits of a word are, entry by entry, the check of its 60 bits of class 2; a decoded word has 184 bits, so there are eight of each
 unfoldable pub good : List ℕ → Bool
 good w = foldr both true (zipWith eqb (take 8 (drop 172 w)) (speechCheck (take 60 (drop 112 w))))
 
