@@ -3,6 +3,7 @@
 use mathlib.Core.Path.{_≡_, refl, sym, ap, _∙_, subst}
 use mathlib.Core.List.{List, [], _∷_, _++_, append-nil, reverse, reverse-cons, reverse-reverse}
 use mathlib.Core.Logic.{inl, inr}
+use mathlib.Core.Option.{some}
 use mathlib.Core.Bool.{Bool, true, false}
 use Prim.Native.Nat.{ℕ, zero, suc, _+_, _*_, _≤_, _<_}
 use native.Mathlib.Nat.{mul-suc}
@@ -13,11 +14,13 @@ use lib.ListN.{length, take, drop, getD, length-reverse, length-take}
 use Rattle.base.specs.Bits.{Bits}
 use Rattle.trellis.specs.Nearest.{encode, distance, nearest, Lex, Candidate, Before, Winner}
 use Rattle.trellis.specs.private.Nearest.{after}
-use Rattle.trellis.specs.Trellis.{state, cost, metric, trace, begin, Bounded, branch, steps, decode}
+use Rattle.trellis.specs.Walk.{branch, steps, bitsBack, score, bestWay}
+use Rattle.trellis.specs.Trellis.{state, cost, metric, trace, begin, Bounded, decode}
 use Rattle.trellis.proofs.Words.{bits-reverse, after-state}
 use Rattle.trellis.proofs.Paths.{trace-length, trace-bits, trace-ends, trace-costs, least, first, state-lt}
 use Rattle.trellis.proofs.Encoding.{distance-take, distance-split, Each, encode-length, encode-append}
 use Rattle.trellis.proofs.Winners.{winner-nearest}
+use Rattle.trellis.proofs.Walk.{starts-at-zero, walk-traced, score-kept}
 
 pub steps-length : {A : Type 0} (m : A → ℕ → ℕ) (out : ℕ → List ℕ) (k : ℕ) (r : List A) (n : ℕ) → length (steps m out k r n) ≡ n
 steps-length m out k r zero = refl
@@ -165,3 +168,37 @@ module _ {A : Type 0} (m : A → ℕ → ℕ) (out : ℕ → List ℕ) (k : ℕ)
   pub decode-distance : distance m r (encode out 0 (decode m out k start r n)) ≡ metric start (steps m out k r n) 0
   unfolding decode
   decode-distance = path-far
+
+-- ---- the walk of Walk.antt
+-- scores for all states to begin with, far enough from that of state 0
+apart : ℕ → ℕ → ℕ
+apart most zero = 0
+apart most (suc s) = suc (4 * most)
+
+apart-enough : (most s : ℕ) → 0 < s → 4 * most < apart most s
+unfolding apart
+apart-enough most zero h = absurd (omega arith)
+apart-enough most (suc s) h = omega arith
+
+module _ {A : Type 0} (m : A → ℕ → ℕ) (out : ℕ → List ℕ) (k : ℕ) (wide : (x : ℕ) → length (out x) ≡ k) (most : ℕ) (r : List A) (n : ℕ)
+    (enough : k * n ≤ length r) (bounded : Bounded most (steps m out k r n)) where
+  zeroth : apart most 0 ≡ 0
+  unfolding apart
+  zeroth = refl
+
+  starts : begin (apart most) (steps m out k r n) 0 ≡ 0
+  starts = starts-at-zero (apart most) most zeroth (apart-enough most) (steps m out k r n) bounded
+
+  -- it gives the nearest word
+  pub walk-nearest : reverse (bitsBack bestWay (steps m out k r n) 0) ≡ nearest (λ v. distance m r (encode out 0 v)) n
+  unfolding decode
+  walk-nearest =
+      ap reverse (walk-traced (apart most) most zeroth (apart-enough most) (steps m out k r n) bounded)
+      ∙ decode-nearest m out k wide (apart most) r n enough zeroth starts
+
+  -- and the score of state 0 is that word's distance
+  pub walk-score : score (steps m out k r n) 0 ≡ some (distance m r (encode out 0 (nearest (λ v. distance m r (encode out 0 v)) n)))
+  walk-score =
+      score-kept (apart most) most zeroth (apart-enough most) (steps m out k r n) bounded
+      ∙ ap some (sym (decode-distance m out k wide (apart most) r n enough zeroth starts)
+      ∙ ap (λ (w : List ℕ). distance m r (encode out 0 w)) (decode-nearest m out k wide (apart most) r n enough zeroth starts))

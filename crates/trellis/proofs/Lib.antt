@@ -5,6 +5,6 @@ pub mod Encoding
 pub mod Winners
 pub mod Undamaged
 pub mod Paths
-pub mod Start
+pub mod Walk
 pub mod Spread
 pub mod Decoder

@@ -12,7 +12,8 @@ use lib.ListN.{length}
 use borrow.Author.Tests.{ltb-true, ltb-false}
 use Rattle.base.specs.Bits.{Bits}
 use Rattle.trellis.specs.Nearest.{Lex}
-use Rattle.trellis.specs.Trellis.{state, before, lesser, taken, cost, metric, via, choice, trace, begin}
+use Rattle.trellis.specs.Walk.{before}
+use Rattle.trellis.specs.Trellis.{state, lesser, taken, cost, metric, via, choice, trace, begin}
 
 -- ---- of two scores
 pub taken-lt : (a b : ℕ) → taken a b < 2

@@ -4,7 +4,8 @@ use mathlib.Core.Path.{_≡_, ap, _∙_, subst}
 use mathlib.Core.List.{List, _∷_}
 use Prim.Native.Nat.{ℕ, _+_, _*_, _/_, _%_, _≤_, _<_}
 use native.Mathlib.Omega.{arith}
-use Rattle.trellis.specs.Trellis.{before, metric, choice, Bounded}
+use Rattle.trellis.specs.Walk.{before}
+use Rattle.trellis.specs.Trellis.{metric, choice, Bounded}
 use Rattle.trellis.proofs.Paths.{via-le, metric-via, choice-lt}
 
 -- ---- p is four steps before any state, by its own bits as the oldest ones

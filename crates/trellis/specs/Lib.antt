@@ -1,3 +1,4 @@
 pub mod Nearest
+pub mod Walk
 pub mod Trellis
 pub mod private

@@ -1,22 +1,16 @@
--- The trellis of a code whose symbols depend on the newest bit and the four before it, over any cost of a branch.
--- A state is the four newest bits, the newest of weight 8; a branch is known by its window: the newest bit, of weight 16, and the four before it.
+-- The trellis with a score for every state from the first step on, over any cost of a branch. States and windows are those of Walk.antt.
 -- Words and steps stand LAST FIRST here, so that the tie rule is the ordinary order of lists.
 -- Assumes nothing.
 use mathlib.Core.List.{List, [], _∷_, reverse}
 use mathlib.Core.Bool.{cond}
-use Prim.Native.Nat.{ℕ, zero, suc, _+_, _*_, _/_, _%_, _<_, _≤_}
+use Prim.Native.Nat.{ℕ, _+_, _*_, _/_, _<_, _≤_}
 use lib.Dec.{ltb}
-use lib.ListN.{take, drop}
-use Rattle.trellis.specs.Nearest.{distance}
+use Rattle.trellis.specs.Walk.{steps, before, bitsBack, endsIn}
 
 -- the state after a word, from the state s
 abbrev pub state : ℕ → List ℕ → ℕ
 state s [] = s
 state s (b ∷ w) = 8 * b + state s w / 2
-
--- the state before s whose oldest bit was x
-abbrev pub before : ℕ → ℕ → ℕ
-before x s = s % 8 * 2 + x
 
 -- of two scores the smaller
 abbrev pub lesser : ℕ → ℕ → ℕ
@@ -47,29 +41,17 @@ module _ (start : ℕ → ℕ) where
   abbrev pub choice : (ℕ → ℕ) → List (ℕ → ℕ) → ℕ → ℕ
   choice c cs s = taken (via c cs s 0) (via c cs s 1)
 
-  -- the bits that the walk back from s meets
+  -- the bits that the walk back from s meets, and the state in which it ends
   abbrev pub trace : List (ℕ → ℕ) → ℕ → List ℕ
-  trace [] s = []
-  trace (c ∷ cs) s = s / 8 ∷ trace cs (before (choice c cs s) s)
+  trace = bitsBack choice
 
-  -- the state in which the walk back from s ends
   abbrev pub begin : List (ℕ → ℕ) → ℕ → ℕ
-  begin [] s = s
-  begin (c ∷ cs) s = begin cs (before (choice c cs s) s)
+  begin = endsIn choice
 
 -- no branch costs more than most
 abbrev pub Bounded : ℕ → List (ℕ → ℕ) → Type 0
 Bounded most [] = Unit {0}
 Bounded most (c ∷ cs) = ((x : ℕ) → x < 32 → c x ≤ most) × Bounded most cs
-
--- the cost of a branch at step i, counted from 0, of k symbols
-abbrev pub branch : {A : Type 0} → (A → ℕ → ℕ) → (ℕ → List ℕ) → ℕ → List A → ℕ → ℕ → ℕ
-branch m out k r i x = distance m (take k (drop (k * i) r)) (out x)
-
--- the first n steps
-abbrev pub steps : {A : Type 0} → (A → ℕ → ℕ) → (ℕ → List ℕ) → ℕ → List A → ℕ → List (ℕ → ℕ)
-steps m out k r zero = []
-steps m out k r (suc i) = branch m out k r i ∷ steps m out k r i
 
 -- the word that the walk back from state 0 gives after n steps, in the order of the air
 unfoldable pub decode : {A : Type 0} → (A → ℕ → ℕ) → (ℕ → List ℕ) → ℕ → (ℕ → ℕ) → List A → ℕ → List ℕ

@@ -15,30 +15,30 @@ use Rattle.base.specs.Places.{written}
 use Rattle.base.proofs.BitLaws.{known-le}
 use Rattle.base.proofs.Lists.{tabulate-length}
 use Rattle.trellis.specs.Nearest.{encode, distance, total, Candidate}
-use Rattle.trellis.specs.Trellis.{before, metric, choice, trace, begin, branch, decode}
-use Rattle.trellis.proofs.Start.{starts-at-zero}
+use Rattle.trellis.specs.Walk.{before, branch}
+use Rattle.trellis.specs.Trellis.{metric, choice, trace, begin, decode}
+use Rattle.trellis.proofs.Walk.{starts-at-zero}
 use Rattle.trellis.proofs.Encoding.{Each, distance-most, distance-take, encode-length, encode-same}
 use Rattle.trellis.proofs.Winners.{nearest-same, nearest-wins}
 use Rattle.trellis.proofs.Decoder.{steps-bounded, decode-nearest, decode-distance}
 use Rattle.convenc.specs.Generators.{outputs}
 use Rattle.base.specs.declared.Valued.the-variants.{Value, Refused}
 use Rattle.viterbi.specs.Decoding.{disagreements, decoded, decodeRefusal, cleared, Decodes}
-use Rattle.viterbi.specs.private.Scores.{down, Marks, Stands, mirrored, earlier, Table, told, Tells, handicap, received, Forward, walk, walkEnd, Back}
+use Rattle.viterbi.specs.private.Scores.{down, Marks, Stands, mirrored, earlier, Table, told, Tells, handicap, received, Forward, walk, Back, Finds}
 use Rattle.viterbi.proofs.Signed.{reads}
 use Rattle.viterbi.proofs.States.{mirrored-back, mirrored-newest, mirrored-earlier}
 use Rattle.viterbi.proofs.Windows.{told-bits}
 use Rattle.viterbi.proofs.Counts.{total-le, each-known}
 use Rattle.viterbi.proofs.Codes.{outputs-length}
+use Rattle.viterbi.proofs.Walking.{few, far-used}
 use Rattle.viterbi.proofs.Pass.{scores-small, knowns-le}
 use Rattle.viterbi.proofs.Refusals.{none}
 
 -- ---- an answer with no refusal, and with one
-pub answered : (code : List (List ℕ)) (n : ℕ) (src target target′ trellis trellis′ : List ℕ) (count : ℕ)
+pub answered : {code : List (List ℕ)} {n : ℕ} {src target target′ trellis trellis′ : List ℕ} {count : ℕ}
     → 0 ≡ decodeRefusal code n (length src) (length trellis) (length target)
-    → count ≡ disagreements code n src (decoded code n src) → target′ ≡ written (decoded code n src) target → trellis′ ≡ cleared n trellis
-    → Decodes code n src target target′ trellis trellis′ (Value count)
-answered code n src target target′ trellis trellis′ count z c t r =
-    record { answers = rw (← z) (ap Value c); writes = rw (← z) t; clears = rw (← z) r }
+    → Finds code n src target target′ trellis trellis′ count → Decodes code n src target target′ trellis trellis′ (Value count)
+answered z f = record { answers = rw (← z) (ap Value (f .counts)); writes = rw (← z) (f .writes); clears = rw (← z) (f .clears) }
 
 pub refused : (code : List (List ℕ)) (n : ℕ) (src target trellis : List ℕ) (number : ℕ)
     → 0 < number → number ≡ decodeRefusal code n (length src) (length trellis) (length target)
@@ -67,36 +67,18 @@ module _ (k : ℕ) (t : List (List ℤ)) (src trellis : List ℕ) where
       ap₂ (λ (x : ℕ) (l : List ℕ). x ∷ l) (mirrored-newest s h)
       (walk-is n (step n s) (omega arith) (λ i p. d i (omega arith)) ∙ ap (trace handicap (received k t src n)) (step-is n s h d))
 
-  end-is : (n s : ℕ) → s < 16 → Chosen n → walkEnd trellis n s ≡ mirrored (begin handicap (received k t src n) (mirrored s))
-  end-is zero s h d = sym (mirrored-back s h)
-  end-is (suc n) s h d =
-      end-is n (step n s) (omega arith) (λ i p. d i (omega arith))
-      ∙ ap (λ (y : ℕ). mirrored (begin handicap (received k t src n) y)) (step-is n s h d)
-
 -- ---- the walk ends in state 0
 others : (s : ℕ) → 0 < s → 4 * 4 < handicap s
 others zero h = absurd (omega arith)
 others (suc s) h = omega arith
 
-plain : (r : List ℕ) → Each (λ (a : ℕ). Unit {0}) r
-plain [] = tt
-plain (a ∷ r) = (tt, plain r)
-
 module _ (k : ℕ) (t : List (List ℤ)) (table : Table k t) (src : List ℕ) (n : ℕ) where
   starts : begin handicap (received k t src n) 0 ≡ 0
-  starts =
-      starts-at-zero handicap 4 (received k t src n) refl others
-      (steps-bounded disagrees (told k t) k 4 (λ (a : ℕ). Unit {0})
-      (λ l h e x b. omega (arith, distance-most disagrees known l (told k t x) (each-known l) (told-bits k t table x b), total-le known l known-le, table .most))
-      src (plain src) n)
+  starts = starts-at-zero handicap k refl (λ s h. omega (arith, others s h, table .most)) (received k t src n) (few (told k t) k (told-bits k t table) src n)
 
   -- what was passed over, and the walk back over its choices
-  module _ (hn : n ≤ 864) (room : k * n ≤ length src) (m : List ℤ) (was now now′ target target′ : List ℕ) (end : ℕ)
-      (f : Forward k t src n m was now) (b : Back n end now now′ target target′) where
-    pub never : 0 < end → ⊥
-    unfolding mirrored
-    never h = omega (arith, b .ends, end-is k t src now n 0 (omega arith) (f .choices), starts)
-
+  module _ (hn : n ≤ 864) (room : k * n ≤ length src) (m : List ℤ) (was now now′ target target′ : List ℕ)
+      (f : Forward k t src n m was now) (b : Back n now now′ target target′) where
     -- ---- what the count asks
     small : mag (getD m 0 (pos 0)) < 20000
     small = scores-small k t table src n m was now hn room f 0 (omega arith)
@@ -126,8 +108,7 @@ module _ (k : ℕ) (t : List (List ℤ)) (table : Table k t) (src : List ℕ) (n
       far-is : (v : List ℕ) → Candidate n v → far v ≡ disagreements code n src v
       far-is v c =
           ap (distance disagrees src) (encode-same (told k t) (outputs code) (tells .says) 0 v (omega arith) (c .bits))
-          ∙ sym (distance-take disagrees (length code * n) src (encode (outputs code) 0 v)
-          (omega (arith, encode-length (outputs code) (length code) (outputs-length code) 0 v, ap (λ (x : ℕ). length code * x) (c .len))))
+          ∙ far-used code n src v c
 
       wide : (x : ℕ) → length (told k t x) ≡ k
       wide x = tabulate-length _ k
@@ -149,12 +130,13 @@ module _ (k : ℕ) (t : List (List ℤ)) (table : Table k t) (src : List ℕ) (n
           ext-getD 0 (drop n now) (drop n was) (length-drop n now ∙ ap (λ (x : ℕ). x - n) (f .long) ∙ sym (length-drop n was))
           (λ i h. getD-drop n now i 0 ∙ f .rest (n + i) (omega arith) ∙ sym (getD-drop n was i 0))
 
-      pub ran : n ≤ length was → n ≤ length target → (symbols count : ℕ) → symbols ≡ total known (take (k * n) src)
+      pub found : (symbols count : ℕ) → symbols ≡ total known (take (k * n) src)
           → ((x : ℕ) → Stands (toZ w16 (ofZ w16 (getD m 0 (pos 0)))) x symbols → count ≡ x)
-          → Decodes code n src target target′ was now′ (Value count)
+          → Finds code n src target target′ was now′ count
       unfolding mirrored
-      ran ht hd symbols count e h =
-          answered code n src target target′ was now′ count (none n (length src) (length was) (length target) k code (tells .rate) hn room ht hd)
-          (h (metric handicap (received k t src n) 0) (rw (read, e) (f .scores 0 (omega arith))) ∙ count-is)
-          (b .word ∙ ap (λ (w : List ℕ). written w target) word-is)
-          (b .clears ∙ ap (λ (l : List ℕ). replicate n 0 ++ l) rest)
+      found symbols count e h =
+          record {
+            counts = h (metric handicap (received k t src n) 0) (rw (read, e) (f .scores 0 (omega arith))) ∙ count-is;
+            writes = b .word ∙ ap (λ (w : List ℕ). written w target) word-is;
+            clears = b .clears ∙ ap (λ (l : List ℕ). replicate n 0 ++ l) rest;
+          }

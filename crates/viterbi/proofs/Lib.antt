@@ -9,6 +9,7 @@ pub mod Refusals
 pub mod Pass
 pub mod Walks
 pub mod Codes
+pub mod Walking
 pub mod Answers
 pub mod Tables
 pub mod Promises

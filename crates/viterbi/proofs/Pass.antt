@@ -13,7 +13,8 @@ use lib.Seq.{getD-set-same, getD-set-other}
 use Rattle.base.specs.Bits.{disagrees, known}
 use Rattle.base.proofs.BitLaws.{known-le}
 use Rattle.trellis.specs.Nearest.{total}
-use Rattle.trellis.specs.Trellis.{before, metric, choice, branch}
+use Rattle.trellis.specs.Walk.{before, branch}
+use Rattle.trellis.specs.Trellis.{metric, choice}
 use Rattle.trellis.proofs.Paths.{lesser-left}
 use Rattle.viterbi.specs.private.Scores.{Holds, Marks, Rows, Stands, Small, mirrored, earlier, Table, told, branchOf, firstWay, secondWay, better, oldest, Turned, handicap, received, Forward}
 use Rattle.viterbi.proofs.Signed.{mag-of}

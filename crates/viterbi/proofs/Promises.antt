@@ -26,9 +26,11 @@ use Rattle.base.specs.declared.Valued.the-variants.{Value}
 use Rattle.base.specs.Refusal.{valued}
 use Rattle.viterbi.specs.Decoding.{used, disagreements, decoded, unerased, decodeRefusal}
 use Rattle.viterbi.specs.Hearing.{motherCode, AnsweredWord}
+use Rattle.viterbi.specs.Walking.{WalksBack}
 use Rattle.viterbi.proofs.Codes.{outputs-length, outputs-bits}
 use Rattle.viterbi.proofs.Counts.{each-known}
 use Rattle.viterbi.proofs.Refusals.{accepts}
+use Rattle.viterbi.proofs.Walking.{walks-back}
 
 -- ---- the count is at most the number of unerased symbols
 pub count-le : (code : List (List ℕ)) (n : ℕ) (src : List ℕ) → disagreements code n src (decoded code n src) ≤ unerased code n src
@@ -53,21 +55,29 @@ pub word-accepted : (number count least : ℕ) → Value count ≡ valued number
 word-accepted zero count least e = (refl, cc)
 word-accepted (suc number) count least e = let z : _≡_ {A = ℕ} 0 1 = cc in absurd (omega arith)
 
+-- what a call that answered a value says of its input
+module _ {code : List (List ℕ)} {n : ℕ} {src : List ℕ} {count : ℕ} {target target′ : List ℕ} (u : AnsweredWord code n src count target target′) where
+  said : (decodeRefusal code n (length src) (length (u .trellis)) (length target) ≡ 0) × (count ≡ disagreements code n src (decoded code n src))
+  said =
+      word-accepted (decodeRefusal code n (length src) (length (u .trellis)) (length target)) count (disagreements code n src (decoded code n src)) (u .call .answers)
+
+  enough : length code * n ≤ length src
+  enough = accepts n (length src) (length (u .trellis)) (length target) code (sym (said .0)) .1
+
+  -- the walk back ends in state 0, gives the word, and its score is the count
+  pub answered-walks-back : WalksBack code n src
+  answered-walks-back = walks-back code n src enough
+
 decoder : (code : List (List ℕ)) (n : ℕ) → Decoder (motherCode code n) Any (AnsweredWord code n) itself (disagreements code n)
 decoder code n =
     record {
       lawful = hard-lawful n (length code * n) (λ j. j) (λ w x. getD (encode (outputs code) 0 w) x 0) (λ (src : List ℕ) x. getD src x 0)
           (λ w j h. bits-at (encode (outputs code) 0 w) (encode-bits (outputs code) (outputs-bits code) 0 w) j);
       fits = λ src count target target′ u j h. tt;
-      weighs = λ src count target target′ u. mother-weighs code n src (accepts n (length src) (length (u .trellis)) (length target) code (sym (none src count target target′ u .0)) .1);
-      writes = λ src count target target′ u. u .call .writes ∙ ap (λ (k : ℕ). unless k (written (decoded code n src) target) target) (none src count target target′ u .0);
-      counts = λ src count target target′ u. none src count target target′ u .1;
+      weighs = λ src count target target′ u. mother-weighs code n src (enough u);
+      writes = λ src count target target′ u. u .call .writes ∙ ap (λ (k : ℕ). unless k (written (decoded code n src) target) target) (said u .0);
+      counts = λ src count target target′ u. said u .1;
     }
-  where
-    none : (src : List ℕ) (count : ℕ) (target target′ : List ℕ) → (u : AnsweredWord code n src count target target′)
-        → (decodeRefusal code n (length src) (length (u .trellis)) (length target) ≡ 0) × (count ≡ disagreements code n src (decoded code n src))
-    none src count target target′ u =
-        word-accepted (decodeRefusal code n (length src) (length (u .trellis)) (length target)) count (disagreements code n src (decoded code n src)) (u .call .answers)
 
 pub dec-sb1-right : (n : ℕ) (src : List ℕ) (count : ℕ) (target target′ : List ℕ) → AnsweredWord control n src count target target′
     → HeardRight (motherCode control n) (AnsweredWord control n) itself src count target target′

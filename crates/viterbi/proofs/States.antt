@@ -5,7 +5,7 @@ use Prim.Native.Nat.{ℕ, _/_, _%_, _<_}
 use native.Mathlib.Omega.{arith}
 use lib.Dec.{eqb, eqb→eq}
 use Rattle.base.proofs.Table.{below, at}
-use Rattle.trellis.specs.Trellis.{before}
+use Rattle.trellis.specs.Walk.{before}
 use Rattle.viterbi.specs.private.Scores.{mirrored, earlier, handicap}
 
 pub mirrored-lt : (s : ℕ) → mirrored s < 16

@@ -6,12 +6,11 @@ use Prim.Native.Nat.{ℕ, zero, suc, _+_, _*_, _/_, _%_, _^_, _-_, _≤_, _<_}
 use native.Mathlib.Omega.{arith}
 use lib.ListN.{length, getD, take, drop, set, replicate, length-set, take-append-drop, List·getD-append}
 use lib.Seq.{take-suc, set-at, length-take-le, getD-take}
-use Rattle.viterbi.specs.private.Scores.{walk, walkEnd, Back}
+use Rattle.viterbi.specs.private.Scores.{walk, Back}
 
 -- with i steps to go, in state s
 pub record Walked (n i s : ℕ) (trellis trellis′ target target′ : List ℕ) : Type 0 where
   pub low : s < 16
-  pub ends : walkEnd trellis i s ≡ walkEnd trellis n 0
   pub clears : trellis′ ≡ take i trellis ++ (replicate (n - i) 0 ++ drop n trellis)
   -- the bits that were met, the first first
   pub done : List ℕ
@@ -25,7 +24,6 @@ pub walked-none : (n : ℕ) (trellis target : List ℕ) → Walked n n 0 trellis
 walked-none n trellis target =
     record {
       low = omega arith;
-      ends = refl;
       clears = whole trellis ∙ ap (λ (x : ℕ). take n trellis ++ (replicate x 0 ++ drop n trellis)) z;
       done = [];
       long = z;
@@ -59,7 +57,6 @@ module _ (n i s : ℕ) (trellis trellis′ target target′ : List ℕ) (w : Wal
   walked-more =
       record {
         low = omega arith;
-        ends = w .ends;
         clears = ap (λ (l : List ℕ). set l i 0) (w .clears) ∙ put-before trellis (replicate (n - suc i) 0 ++ drop n trellis) i 0 (omega arith)
             ∙ ap (λ (x : ℕ). take i trellis ++ (replicate x 0 ++ drop n trellis)) (sym e);
         done = s % 2 ∷ w .done;
@@ -84,10 +81,9 @@ walked-back n (suc i) s trellis trellis′ target target′ w h l p q =
     let e : suc i - 1 ≡ i = omega arith in
     rw e (walked-on n i s trellis trellis′ target target′ w l p q)
 
-pub walked-all : (n s : ℕ) (trellis trellis′ target target′ : List ℕ) → Walked n 0 s trellis trellis′ target target′ → Back n s trellis trellis′ target target′
+pub walked-all : (n s : ℕ) (trellis trellis′ target target′ : List ℕ) → Walked n 0 s trellis trellis′ target target′ → Back n trellis trellis′ target target′
 walked-all n s trellis trellis′ target target′ w =
     record {
-      ends = w .ends;
       word = w .writes ∙ ap₂ (λ (l : List ℕ) (x : ℕ). l ++ drop x target) (w .word) long;
       clears = w .clears ∙ ap (λ (x : ℕ). replicate x 0 ++ drop n trellis) z;
     }

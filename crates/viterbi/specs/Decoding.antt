@@ -28,7 +28,7 @@ decoded code n src = nearest (disagreements code n src) n
 abbrev pub unerased : List (List ℕ) → ℕ → List ℕ → ℕ
 unerased code n src = total known (used code n src)
 
--- START comes last in document 01's order and stands in no chain here: the walk back always ends in state 0, so it is never given
+-- in the order of document 01
 abbrev pub decodeRefusal : List (List ℕ) → ℕ → ℕ → ℕ → ℕ → ℕ
 decodeRefusal code n src trellis dst = when (ltb 864 n) LIMIT (sized src (length code * n) trellis n (when (ltb dst n) ROOM accepted))
 

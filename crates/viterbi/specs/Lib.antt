@@ -1,3 +1,4 @@
 pub mod Decoding
 pub mod Hearing
+pub mod Walking
 pub mod private

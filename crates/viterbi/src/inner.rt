@@ -9,11 +9,10 @@ ghost use lib.ListN.{length, getD, take};
 ghost use Rattle.base.specs.Bits.{known};
 ghost use Rattle.trellis.specs.Nearest.{total};
 ghost use Rattle.viterbi.specs.Decoding.{decodeRefusal, Decodes};
-ghost use Rattle.viterbi.specs.private.Scores.{Sixteen, Holds, Marks, Small, Trit, Trits, Stands, Table, Tells, Rows, classOf, Classes, branchOf, firstWay, secondWay, better, oldest, Turned, Forward, Back, down};
+ghost use Rattle.viterbi.specs.private.Scores.{Sixteen, Holds, Marks, Small, Trit, Trits, Stands, Table, Tells, Rows, classOf, Classes, branchOf, firstWay, secondWay, better, oldest, Turned, Forward, Back, Finds, down};
 use base::LIMIT;
 use base::ROOM;
 use base::SHORT;
-use base::START;
 use base::Valued;
 
 // What the states other than 0 begin with: more than four steps can cost, and little enough for 864 steps in an i16.
@@ -205,10 +204,10 @@ fn forward(
     scores
 }
 
-// The walk back from state 0: it writes the word, clears the trellis and answers the state in which it ends.
-fn back(n: usize, trellis: &mut [u16], target: &mut [u8]) -> u16
+// The walk back from state 0: it writes the word and clears the trellis.
+fn back(n: usize, trellis: &mut [u16], target: &mut [u8])
     requires { ⌜ (n ≤ length (now trellis)) × (n ≤ length (now target)) ⌝ }
-    ensures { λ r. ⌜ Back n r (now (trellis .entry)) (now (trellis .exit)) (now (target .entry)) (now (target .exit)) ⌝ }
+    ensures { λ _. ⌜ Back n (now (trellis .entry)) (now (trellis .exit)) (now (target .entry)) (now (target .exit)) ⌝ }
 {
     let mut i = n;
     let mut s: u16 = 0;
@@ -218,7 +217,6 @@ fn back(n: usize, trellis: &mut [u16], target: &mut [u8]) -> u16
         s = s / 2 + 8 * ((trellis[i] >> s) % 2);
         trellis[i] = 0;
     }
-    s
 }
 
 // How many of the first n symbols are bits.
@@ -264,7 +262,7 @@ fn refusal(k: usize, n: usize, source: usize, trellis: usize, target: usize) -> 
     0
 }
 
-// The decoder where nothing is refused before it. START stands last, as document 01 has it, and is never met.
+// The decoder where nothing is refused: the disagreements of the word that it writes.
 fn run(
     expected: [[i8; 16]; 4],
     k: usize,
@@ -272,17 +270,15 @@ fn run(
     target: &mut [u8],
     n: usize,
     trellis: &mut [u16],
-) -> Valued
+) -> usize
     requires { ⌜ Table k expected × (n ≤ 864) × (k * n ≤ length (now source)) × (n ≤ length (now trellis)) × (n ≤ length (now target)) ⌝ }
     ensures { λ r. ⌜ ((code : List (List ℕ)) → Tells code k expected
-        → Decodes code n (now (source .entry)) (now (target .entry)) (now (target .exit)) (now (trellis .entry)) (now (trellis .exit)) r) ⌝ }
+        → Finds code n (now (source .entry)) (now (target .entry)) (now (target .exit)) (now (trellis .entry)) (now (trellis .exit)) r) ⌝ }
 {
     let scores = forward(expected, k, source, n, trellis);
     let z = scores.m[0];
-    if 0 < back(n, trellis, target) {
-        return Valued::Refused(START);
-    }
-    Valued::Value(cost(z, unerased(source, k * n)))
+    back(n, trellis, target);
+    cost(z, unerased(source, k * n))
 }
 
 // Both decoders: n steps of k symbols over a table of expected bits.
@@ -302,5 +298,5 @@ pub fn decode(
     if 0 < number {
         return Valued::Refused(number);
     }
-    run(expected, k, source, target, n, trellis)
+    Valued::Value(run(expected, k, source, target, n, trellis))
 }

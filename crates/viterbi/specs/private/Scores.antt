@@ -12,9 +12,10 @@ use lib.ListN.{length, getD, take}
 use Rattle.base.specs.Bits.{disagrees, known}
 use Rattle.base.specs.Places.{tabulate, written}
 use Rattle.trellis.specs.Nearest.{total}
-use Rattle.trellis.specs.Trellis.{metric, choice, branch, steps}
+use Rattle.trellis.specs.Walk.{branch, steps}
+use Rattle.trellis.specs.Trellis.{metric, choice}
 use Rattle.convenc.specs.Generators.{outputs}
-use Rattle.viterbi.specs.Decoding.{cleared}
+use Rattle.viterbi.specs.Decoding.{disagreements, decoded, cleared}
 
 -- ---- signed numbers: z is `up z` less `down z`, and one of the two is 0
 abbrev pub up : ℤ → ℕ
@@ -161,17 +162,18 @@ pub record Forward (k : ℕ) (t : List (List ℤ)) (src : List ℕ) (n : ℕ) (m
   pub long : length now ≡ length was
   pub rest : (i : ℕ) → n ≤ i → getD now i 0 ≡ getD was i 0
 
--- the bits that a walk back over n steps of a trellis meets, the last first, and the state in which it ends
+-- the bits that a walk back over n steps of a trellis meets, the last first
 abbrev pub walk : List ℕ → ℕ → ℕ → List ℕ
 walk trellis zero s = []
 walk trellis (suc i) s = s % 2 ∷ walk trellis i (earlier (getD trellis i 0 / 2 ^ s % 2) s)
 
-abbrev pub walkEnd : List ℕ → ℕ → ℕ → ℕ
-walkEnd trellis zero s = s
-walkEnd trellis (suc i) s = walkEnd trellis i (earlier (getD trellis i 0 / 2 ^ s % 2) s)
-
 -- the walk wrote its bits over the front of the target, in the order of the air, and cleared what it read
-pub record Back (n end : ℕ) (trellis trellis′ target target′ : List ℕ) : Type 0 where
-  pub ends : end ≡ walkEnd trellis n 0
+pub record Back (n : ℕ) (trellis trellis′ target target′ : List ℕ) : Type 0 where
   pub word : target′ ≡ written (reverse (walk trellis n 0)) target
+  pub clears : trellis′ ≡ cleared n trellis
+
+-- ---- the decoder where nothing is refused
+pub record Finds (code : List (List ℕ)) (n : ℕ) (src target target′ trellis trellis′ : List ℕ) (count : ℕ) : Type 0 where
+  pub counts : count ≡ disagreements code n src (decoded code n src)
+  pub writes : target′ ≡ written (decoded code n src) target
   pub clears : trellis′ ≡ cleared n trellis

@@ -3,7 +3,7 @@ use native.Mathlib.Omega.{arith}
 use borrow.Author.Needs.{needs}
 use lib.ListN.{length}
 use Rattle.viterbi.proofs.Refusals.{accepts-rate}
-use Rattle.viterbi.proofs.Answers.{refused}
+use Rattle.viterbi.proofs.Answers.{answered, refused}
 use Rattle.viterbi.proofs.inner.decode.Statement.{statement}
 use Rattle.viterbi.proofs.inner.decode.Tie as tie
 
@@ -30,7 +30,9 @@ same-length-2 : tie.Need-same-length-2
 same-length-2 c = search needs
 
 returns-2 : tie.Need-returns-2
-returns-2 c = c .before .before .before .before .run .ensures
+returns-2 c code tells =
+    let r = c .before .before .before .before .before .before .before .before .refusal in
+    answered (omega (arith, r .ensures code (tells .rate))) (c .before .before .before .before .run .ensures code tells)
 
 pub decode-spec : {M : Type 1} → statement M
 decode-spec =
