@@ -24,11 +24,9 @@ use Rattle.convenc.proofs.Encoding.{encoded-bits, encoded-length}
 use Rattle.puncturing.specs.Puncturing.{needed, punctured, depunctured}
 use Rattle.interleaver.specs.Interleaving.{shared, interleaved, deinterleaved}
 use Rattle.scrambler.specs.Scrambling.{scrambled, descrambled}
-use Rattle.base.specs.declared.Valued.{Valued}
-use Rattle.base.specs.declared.Valued.the-variants as values
-use Rattle.viterbi.specs.Decoding.{decoded, disagreements, cleared, Decodes}
+use Rattle.viterbi.specs.Decoding.{decoded, disagreements, cleared}
+use Rattle.viterbi.specs.private.Finding.{Finds}
 use Rattle.stages.proofs.Calls.{whole, front}
-use Rattle.stages.proofs.Decoding.{word-written, trellis-cleared, count-is}
 use Rattle.stages.proofs.Entries.{receives-done}
 use Rattle.errorcontrol_cp.specs.Kinds.{isKind, dataBits, airSymbols, interleaverStep}
 use Rattle.errorcontrol_cp.specs.private.Kinds.{Numbers}
@@ -138,27 +136,22 @@ receivable kind air word trellis d n k a ok is =
     }
 
 -- the decoder's word is judged by its data and check
-module _ (count n : ℕ) (symbols word word′ trellis trellis′ : List ℕ) (r : Valued) (most : count ≤ 268) (tail : count + 20 ≡ n)
-    (size : length symbols ≡ 4 * n) (room : n ≤ length word) (steps : n ≤ length trellis) (does : Decodes control n symbols word word′ trellis trellis′ r) where
-  few : n ≤ 864
-  few = omega arith
-
-  front-kept : take (count + 16) word′ ≡ take (count + 16) (decoded control n symbols)
-  front-kept =
-      ap (take (count + 16)) (word-written does few size room steps)
-      ∙ take-append-le (count + 16) (decoded control n symbols) (drop (length (decoded control n symbols)) word)
-      (omega (arith, nearest-length (disagreements control n symbols) n))
-
-  pub settled : (value : ℕ) (answer : Received) → r ≡ values.Value value
-      → answer ≡ checked (eqb (register 0xffff (take (count + 16) word′)) OK) (record { disagreements = value })
-      → (answer ≡ checked (eqb (register 0xffff (take (count + 16) (decoded control n symbols))) OK)
-      (record { disagreements = disagreements control n symbols (decoded control n symbols) }))
-      × (word′ ≡ written (decoded control n symbols) word) × (trellis′ ≡ cleared n trellis)
-  settled value answer e f = (
-    f ∙ ap₂ (λ (w : List ℕ) (x : ℕ). checked (eqb (register 0xffff w) OK) (record { disagreements = x })) front-kept (count-is does few size room steps value e),
-    word-written does few size room steps,
-    trellis-cleared does few size room steps,
-  )
+pub settled : (count n : ℕ) (symbols word word′ trellis trellis′ : List ℕ) (value : ℕ) → count + 20 ≡ n → Finds control n symbols word word′ trellis trellis′ value
+    → (answer : Received) → answer ≡ checked (eqb (register 0xffff (take (count + 16) word′)) OK) (record { disagreements = value })
+    → (answer ≡ checked (eqb (register 0xffff (take (count + 16) (decoded control n symbols))) OK)
+    (record { disagreements = disagreements control n symbols (decoded control n symbols) }))
+    × (word′ ≡ written (decoded control n symbols) word) × (trellis′ ≡ cleared n trellis)
+settled count n symbols word word′ trellis trellis′ value tail does answer e = (
+  e ∙ ap₂ (λ (w : List ℕ) (x : ℕ). checked (eqb (register 0xffff w) OK) (record { disagreements = x })) front-kept (does .counts),
+  does .writes,
+  does .clears,
+)
+  where
+    front-kept : take (count + 16) word′ ≡ take (count + 16) (decoded control n symbols)
+    front-kept =
+        ap (take (count + 16)) (does .writes)
+        ∙ take-append-le (count + 16) (decoded control n symbols) (drop (length (decoded control n symbols)) word)
+        (omega (arith, nearest-length (disagreements control n symbols) n))
 
 -- the mother symbols stand over the front of erasures
 module _ (kind start : ℕ) (air word trellis : List ℕ) (d n k a : ℕ) (ok : receiveRefusal kind (length air) (length word) (length trellis) ≡ accepted)

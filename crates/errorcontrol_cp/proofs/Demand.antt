@@ -22,6 +22,8 @@ use Rattle.interleaver.specs.Interleaving.{place, interleaved}
 use Rattle.interleaver.proofs.Block.{block-onto}
 use Rattle.scrambler.proofs.Blocks.{scrambled-bits}
 use Rattle.crc16.specs.Crc.{check}
+use Rattle.viterbi.specs.Walking.{WalksBack}
+use Rattle.viterbi.proofs.Walking.{walks-back}
 use Rattle.viterbi.specs.Decoding.{disagreements}
 use Rattle.air.specs.Demand.{Unrefused, HeardRight, itself}
 use Rattle.stages.proofs.Passage.{Passage, Arrival, bits-lawful, weighs}
@@ -85,6 +87,10 @@ decode-cp-right kind start =
     (λ air word trellis ok. let a = receive-accepts kind (length air) word trellis ok in
     weighs (passage kind (a .known) start) (λ l. l) air (mother kind start air) (arrival kind (a .known) start air (a .long)))
     (λ air. refl) (λ air. refl)
+
+-- ---- the walk back
+pub decode-cp-walks-back : (kind start : ℕ) (air : List ℕ) → WalksBack control (wordBits kind) (mother kind start air)
+decode-cp-walks-back kind start air = walks-back control (wordBits kind) (mother kind start air) (omega (arith, mother-length kind start air))
 
 -- ---- Good
 decoded-length : (kind start : ℕ) (air : List ℕ) → length (wordFrom kind start air) ≡ wordBits kind

@@ -38,7 +38,6 @@ countsOf kind start air = record { disagreements = disagreements control (wordBi
 unfoldable pub good : ℕ → List ℕ → Bool
 good kind w = eqb (register 0xffff (take (dataBits kind + 16) w)) OK
 
--- START comes last in document 01's order and stands in no chain here: the walk back always ends in state 0, so it is never given
 abbrev pub receiveRefusal : ℕ → ℕ → ℕ → ℕ → ℕ
 receiveRefusal kind air word trellis =
     when (not (isKind kind)) KIND

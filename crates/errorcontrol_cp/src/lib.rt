@@ -171,11 +171,8 @@ fn settle(count: usize, n: usize, mother: &[u8], word: &mut [u8], trellis: &mut 
         × (now (word .exit) ≡ written (decoded control n (now (mother .entry))) (now (word .entry)))
         × (now (trellis .exit) ≡ cleared n (now (trellis .entry))) ⌝ }
 {
-    let answer = viterbi::dec_sb1(mother, word, n, trellis);
-    match answer {
-        base::Valued::Value(disagreements) => judge(count, word, disagreements),
-        base::Valued::Refused(number) => Received::Refused(number),
-    }
+    let disagreements = viterbi::inner::control(mother, word, n, trellis);
+    judge(count, word, disagreements)
 }
 
 // The nearest word to the air symbols, over the front of the target, and what its check says.

@@ -29,17 +29,15 @@ use Rattle.speech_crc.proofs.Shape.{check-bits}
 use Rattle.base.specs.declared.Received.{Received}
 use Rattle.base.specs.Refusal.{checked}
 use Rattle.trellis.proofs.Winners.{nearest-length}
-use Rattle.base.specs.declared.Valued.{Valued}
-use Rattle.base.specs.declared.Valued.the-variants.{Value, Refused}
-use Rattle.viterbi.specs.Decoding.{Decodes, decoded, disagreements}
+use Rattle.viterbi.specs.Decoding.{decoded, disagreements}
+use Rattle.viterbi.specs.private.Finding.{Finds}
 use Rattle.interleaver.specs.Interleaving.{matrixDeinterleaved}
 use Rattle.scrambler.specs.Scrambling.{descrambled}
-use Rattle.stages.proofs.Decoding.{word-written, trellis-cleared, count-is, never-refused}
 use Rattle.stages.proofs.Entries.{receives-done}
 use Rattle.errorcontrol_tp.specs.Sending.{wordOf, coded, onAir, slot}
 use Rattle.errorcontrol_tp.specs.Receiving.{slotOf, blockOf, motherOf, wordFrom, countsOf, good, readBit, codecBits, receiveRefusal, Receives}
 use Rattle.errorcontrol_tp.specs.private.Settling.{wordIn, Settles}
-use Rattle.errorcontrol_tp.proofs.Mother.{bits-take, mother-long}
+use Rattle.errorcontrol_tp.proofs.Mother.{bits-take}
 
 -- ---- an array written in parts
 pub two-parts : (p z q : List ℕ) (a b : ℕ) → length p ≡ a → length z ≡ b → putMid a b (p ++ z) q ≡ p ++ q
@@ -242,30 +240,23 @@ pub block-came : (start : ℕ) (air block : List ℕ) → length air ≡ 432 →
 unfolding blockOf
 block-came start air block e p = p ∙ ap (λ (l : List ℕ). matrixDeinterleaved 24 18 (descrambled start l)) (take-all 432 air (omega arith))
 
-module _ (block mother blank word codec left trellis trellis′ : List ℕ) (decision : Valued) (steps : 184 ≤ length trellis) (target : 274 ≤ length codec)
-    (m : mother ≡ motherOf block) (room : length blank ≡ 184) (call : Decodes speech 184 mother blank word trellis trellis′ decision) where
-  mother-whole : length mother ≡ 552
-  mother-whole = ap length m ∙ mother-long block
-
-  word-decoded : word ≡ wordIn block
-  word-decoded =
-      word-written call (omega arith) mother-whole (omega arith) steps
-      ∙ written-whole (decoded speech 184 mother) blank (nearest-length (disagreements speech 184 mother) 184 ∙ sym room)
-      ∙ ap (decoded speech 184) m
-
-  pub settles : (n : ℕ) (answer : Received) → decision ≡ Value n → answer ≡ checked (good word) (record { disagreements = n })
-      → left ≡ codecOf (map readBit (take 102 block) ++ take 172 word) codec → Settles block codec trellis answer left trellis′
-  settles n answer w a l =
-      record {
-        answered = a ∙ ap₂ (λ (v : List ℕ) (k : ℕ). checked (good v) (record { disagreements = k })) word-decoded
-            (count-is call (omega arith) mother-whole (omega arith) steps n w ∙ ap (λ (s : List ℕ). disagreements speech 184 s (decoded speech 184 s)) m);
-        target = l ∙ codec-over (map readBit (take 102 block) ++ take 172 word) codec target
-            ∙ ap (λ (v : List ℕ). written (codecOf (map readBit (take 102 block) ++ take 172 v) (replicate 274 0)) codec) word-decoded;
-        clears = trellis-cleared call (omega arith) mother-whole (omega arith) steps;
-      }
-
-  pub never : {A : Type 0} (number : ℕ) → decision ≡ Refused number → A
-  never = never-refused call (omega arith) mother-whole (omega arith) steps
+pub settles : (block mother blank word codec left trellis trellis′ : List ℕ) (value : ℕ) → 274 ≤ length codec → mother ≡ motherOf block → length blank ≡ 184
+    → Finds speech 184 mother blank word trellis trellis′ value → (answer : Received) → answer ≡ checked (good word) (record { disagreements = value })
+    → left ≡ codecOf (map readBit (take 102 block) ++ take 172 word) codec → Settles block codec trellis answer left trellis′
+settles block mother blank word codec left trellis trellis′ value target m room does answer a l =
+    record {
+      answered = a ∙ ap₂ (λ (v : List ℕ) (k : ℕ). checked (good v) (record { disagreements = k })) word-decoded
+          (does .counts ∙ ap (λ (s : List ℕ). disagreements speech 184 s (decoded speech 184 s)) m);
+      target = l ∙ codec-over (map readBit (take 102 block) ++ take 172 word) codec target
+          ∙ ap (λ (v : List ℕ). written (codecOf (map readBit (take 102 block) ++ take 172 v) (replicate 274 0)) codec) word-decoded;
+      clears = does .clears;
+    }
+  where
+    word-decoded : word ≡ wordIn block
+    word-decoded =
+        does .writes
+        ∙ written-whole (decoded speech 184 mother) blank (nearest-length (disagreements speech 184 mother) 184 ∙ sym room)
+        ∙ ap (decoded speech 184) m
 
 -- what a settled slot is to its entry
 pub received-slot : (count start : ℕ) (air slot codec trellis : List ℕ) (answer : Received) (codec′ trellis′ : List ℕ)

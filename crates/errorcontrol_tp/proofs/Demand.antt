@@ -8,6 +8,8 @@ use lib.ListN.{length, replicate, length-replicate}
 use Rattle.base.specs.Bits.{Bits}
 use Rattle.convenc.specs.Generators.{speech}
 use Rattle.scrambler.specs.Scrambling.{output}
+use Rattle.viterbi.specs.Walking.{WalksBack}
+use Rattle.viterbi.proofs.Walking.{walks-back}
 use Rattle.viterbi.specs.Decoding.{disagreements}
 use Rattle.air.specs.Demand.{Unrefused, HeardRight}
 use Rattle.stages.proofs.Passage.{Passage, Arrival, bits-lawful, weighs}
@@ -64,3 +66,8 @@ decode-tp-right start = slot-right 432 start (omega arith)
 pub decode-tp-half-right : (start : ℕ) (air : List ℕ) (count : ℕ) (codec codec′ : List ℕ) → Unrefused (Receives 216 start) air count codec codec′
     → HeardRight (speechChannel 216 start) (Unrefused (Receives 216 start)) (codecBits 216 start) air count codec codec′
 decode-tp-half-right start = slot-right 216 start (omega arith)
+
+-- ---- the walk back, for 432 symbols and for 216
+pub decode-tp-walks-back : (count start : ℕ) (air : List ℕ) → WalksBack speech 184 (motherOf (blockOf start (slotOf count air)))
+decode-tp-walks-back count start air =
+    walks-back speech 184 (motherOf (blockOf start (slotOf count air))) (omega (arith, mother-long (blockOf start (slotOf count air))))

@@ -52,7 +52,6 @@ readBit symbol = when (eqb symbol 1) 1 0
 unfoldable pub codecBits : ℕ → ℕ → List ℕ → List ℕ → List ℕ
 codecBits count start air w = codecOf (map readBit (take 102 (blockOf start (slotOf count air))) ++ take 172 w) (replicate 274 0)
 
--- START comes last in document 01's order and is never given: the walk back always ends in state 0
 abbrev pub receiveRefusal : ℕ → ℕ → ℕ → ℕ → ℕ
 receiveRefusal count air codec trellis = sized air count codec 274 (when (ltb trellis 184) ROOM accepted)
 

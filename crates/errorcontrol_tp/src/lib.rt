@@ -23,7 +23,6 @@ use base::Outcome;
 use base::ROOM;
 use base::Received;
 use base::SHORT;
-use base::Valued;
 use base::inner::copy;
 
 // ---- sending
@@ -256,11 +255,8 @@ fn settle(block: [u8; 432], codec: &mut [u8], trellis: &mut [u16]) -> Received
 {
     let mother = mother_symbols(block);
     let mut word = [0u8; 184];
-    let decoded = viterbi::dec_speech(&mother, &mut word, 184, trellis);
-    match decoded {
-        Valued::Value(disagreements) => deliver(block, word, disagreements, codec),
-        Valued::Refused(number) => Received::Refused(number),
-    }
+    let disagreements = viterbi::inner::speech(&mother, &mut word, 184, trellis);
+    deliver(block, word, disagreements, codec)
 }
 
 // A slot of 432 symbols received.

@@ -3,6 +3,5 @@ pub mod Route
 pub mod Pieces
 pub mod Passage
 pub mod Places
-pub mod Decoding
 pub mod Entries
 pub mod Demand

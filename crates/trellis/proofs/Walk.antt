@@ -1,7 +1,7 @@
 -- The walk back from state 0 ends in state 0. A decoder that begins the other states with a score takes the same walk, if that score exceeds what
 -- four steps can cost: after four steps every state has been reached from state 0.
 -- Assumes nothing.
-use mathlib.Core.Path.{_≡_, refl, sym, ap, ap₂, _∙_}
+use mathlib.Core.Path.{_≡_, refl, sym, ap, _∙_}
 use mathlib.Core.List.{List, [], _∷_}
 use mathlib.Core.Option.{Option, none, some, IsSome}
 use mathlib.Core.Bool.{Bool, true, false, cond}
@@ -9,7 +9,7 @@ use Prim.Native.Nat.{ℕ, zero, suc, _+_, _*_, _/_, _%_, _≤_, _<_}
 use native.Mathlib.Omega.{arith}
 use lib.Dec.{ltb}
 use lib.ListN.{length}
-use borrow.Author.Tests.{le-ltb, lt-ltb, ltb-true, ltb-false}
+use borrow.Author.Tests.{le-ltb, lt-ltb}
 use Rattle.trellis.specs.Walk.{before, bitsBack, endsIn, plus, second, best, score, way, bestWay}
 use Rattle.trellis.specs.Trellis.{lesser, metric, choice, trace, begin, Bounded}
 

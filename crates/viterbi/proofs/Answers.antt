@@ -1,7 +1,7 @@
 -- The parts put together: the word, its count, and what is left in target and trellis.
 -- Assumes nothing.
 use mathlib.Core.Path.{_≡_, refl, sym, ap, ap₂, _∙_}
-use mathlib.Core.List.{List, [], _∷_, _++_, reverse}
+use mathlib.Core.List.{List, _∷_, _++_, reverse}
 use Prim.Native.Nat.{ℕ, zero, suc, _+_, _*_, _/_, _%_, _^_, _-_, _≤_, _<_}
 use native.Mathlib.Omega.{arith}
 use lib.IntN.{ℤ, pos, negsuc}
@@ -12,27 +12,24 @@ use mir.Syntax.{w16}
 use mir.Val.{toZ, ofZ}
 use Rattle.base.specs.Bits.{disagrees, known}
 use Rattle.base.specs.Places.{written}
-use Rattle.base.proofs.BitLaws.{known-le}
 use Rattle.base.proofs.Lists.{tabulate-length}
 use Rattle.trellis.specs.Nearest.{encode, distance, total, Candidate}
 use Rattle.trellis.specs.Walk.{before, branch}
 use Rattle.trellis.specs.Trellis.{metric, choice, trace, begin, decode}
 use Rattle.trellis.proofs.Walk.{starts-at-zero}
-use Rattle.trellis.proofs.Encoding.{Each, distance-most, distance-take, encode-length, encode-same}
+use Rattle.trellis.proofs.Encoding.{encode-same}
 use Rattle.trellis.proofs.Winners.{nearest-same, nearest-wins}
-use Rattle.trellis.proofs.Decoder.{steps-bounded, decode-nearest, decode-distance}
+use Rattle.trellis.proofs.Decoder.{decode-nearest, decode-distance}
 use Rattle.convenc.specs.Generators.{outputs}
 use Rattle.base.specs.declared.Valued.the-variants.{Value, Refused}
-use Rattle.viterbi.specs.Decoding.{disagreements, decoded, decodeRefusal, cleared, Decodes}
-use Rattle.viterbi.specs.private.Scores.{down, Marks, Stands, mirrored, earlier, Table, told, Tells, handicap, received, Forward, walk, Back, Finds}
+use Rattle.viterbi.specs.Decoding.{disagreements, decoded, decodeRefusal, Decodes}
+use Rattle.viterbi.specs.private.Scores.{down, Marks, Stands, mirrored, earlier, Table, told, Tells, handicap, received, Forward, walk, Back}
+use Rattle.viterbi.specs.private.Finding.{Finds}
 use Rattle.viterbi.proofs.Signed.{reads}
-use Rattle.viterbi.proofs.States.{mirrored-back, mirrored-newest, mirrored-earlier}
+use Rattle.viterbi.proofs.States.{mirrored-newest, mirrored-earlier}
 use Rattle.viterbi.proofs.Windows.{told-bits}
-use Rattle.viterbi.proofs.Counts.{total-le, each-known}
-use Rattle.viterbi.proofs.Codes.{outputs-length}
 use Rattle.viterbi.proofs.Walking.{few, far-used}
 use Rattle.viterbi.proofs.Pass.{scores-small, knowns-le}
-use Rattle.viterbi.proofs.Refusals.{none}
 
 -- ---- an answer with no refusal, and with one
 pub answered : {code : List (List ℕ)} {n : ℕ} {src target target′ trellis trellis′ : List ℕ} {count : ℕ}
@@ -40,11 +37,11 @@ pub answered : {code : List (List ℕ)} {n : ℕ} {src target target′ trellis 
     → Finds code n src target target′ trellis trellis′ count → Decodes code n src target target′ trellis trellis′ (Value count)
 answered z f = record { answers = rw (← z) (ap Value (f .counts)); writes = rw (← z) (f .writes); clears = rw (← z) (f .clears) }
 
-pub refused : (code : List (List ℕ)) (n : ℕ) (src target trellis : List ℕ) (number : ℕ)
+pub refused : {code : List (List ℕ)} {n : ℕ} {src target trellis : List ℕ} {number : ℕ}
     → 0 < number → number ≡ decodeRefusal code n (length src) (length trellis) (length target)
     → Decodes code n src target target trellis trellis (Refused number)
-refused code n src target trellis zero h e = absurd (omega arith)
-refused code n src target trellis (suc number) h e = record { answers = rw (← e); writes = rw (← e); clears = rw (← e) }
+refused {number = zero} h e = absurd (omega arith)
+refused {number = suc number} h e = record { answers = rw (← e); writes = rw (← e); clears = rw (← e) }
 
 -- ---- the walk over the choices is the trellis's own
 module _ (k : ℕ) (t : List (List ℤ)) (src trellis : List ℕ) where

@@ -8,12 +8,30 @@ ghost use lib.Signed.{mag};
 ghost use lib.ListN.{length, getD, take};
 ghost use Rattle.base.specs.Bits.{known};
 ghost use Rattle.trellis.specs.Nearest.{total};
-ghost use Rattle.viterbi.specs.Decoding.{decodeRefusal, Decodes};
-ghost use Rattle.viterbi.specs.private.Scores.{Sixteen, Holds, Marks, Small, Trit, Trits, Stands, Table, Tells, Rows, classOf, Classes, branchOf, firstWay, secondWay, better, oldest, Turned, Forward, Back, Finds, down};
+ghost use Rattle.convenc.specs.Generators as codes;
+ghost use Rattle.viterbi.specs.Decoding.{decodeRefusal};
+ghost use Rattle.viterbi.specs.private.Scores.{Sixteen, Holds, Marks, Small, Trit, Trits, Stands, Table, Tells, Rows, classOf, Classes, branchOf, firstWay, secondWay, better, oldest, Turned, Forward, Back, down};
+ghost use Rattle.viterbi.specs.private.Finding.{Finds};
 use base::LIMIT;
 use base::ROOM;
 use base::SHORT;
-use base::Valued;
+
+// Rows of expected bits, -1 for 0 and 1 for 1, at each state, its newest bit lowest, when the bit before the state's four was 0
+// (EN 300 392-2, 8.2.3.1.1).
+const CONTROL: [[i8; 16]; 4] = [
+    [-1, 1, 1, -1, -1, 1, 1, -1, -1, 1, 1, -1, -1, 1, 1, -1],
+    [-1, 1, -1, 1, 1, -1, 1, -1, 1, -1, 1, -1, -1, 1, -1, 1],
+    [-1, 1, 1, -1, 1, -1, -1, 1, -1, 1, 1, -1, 1, -1, -1, 1],
+    [-1, 1, 1, -1, -1, 1, 1, -1, 1, -1, -1, 1, 1, -1, -1, 1],
+];
+
+// The same for the three generators of EN 300 395-2, 5.4.3.1, with a row of zeros.
+const SPEECH: [[i8; 16]; 4] = [
+    [-1, 1, 1, -1, 1, -1, -1, 1, 1, -1, -1, 1, -1, 1, 1, -1],
+    [-1, 1, 1, -1, -1, 1, 1, -1, 1, -1, -1, 1, 1, -1, -1, 1],
+    [-1, 1, -1, 1, 1, -1, 1, -1, -1, 1, -1, 1, 1, -1, 1, -1],
+    [0, 0, 0, 0, 0, 0, 0, 0, 0, 0, 0, 0, 0, 0, 0, 0],
+];
 
 // What the states other than 0 begin with: more than four steps can cost, and little enough for 864 steps in an i16.
 const HANDICAP: i16 = 4096;
@@ -242,8 +260,8 @@ fn cost(z: i16, symbols: usize) -> usize
     twice as usize / 2
 }
 
-// The number of the refusal, or 0.
-fn refusal(k: usize, n: usize, source: usize, trellis: usize, target: usize) -> u8
+// The number of the refusal, or 0, of n steps of k symbols.
+pub fn refusal(k: usize, n: usize, source: usize, trellis: usize, target: usize) -> u8
     requires { ⌜ k < 5 ⌝ }
     ensures { λ r. ⌜ ((code : List (List ℕ)) → length code ≡ k → r ≡ decodeRefusal code n source trellis target) ⌝ }
 {
@@ -281,22 +299,18 @@ fn run(
     cost(z, unerased(source, k * n))
 }
 
-// Both decoders: n steps of k symbols over a table of expected bits.
-pub fn decode(
-    expected: [[i8; 16]; 4],
-    k: usize,
-    source: &[u8],
-    target: &mut [u8],
-    n: usize,
-    trellis: &mut [u16],
-) -> Valued
-    requires { ⌜ Table k expected ⌝ }
-    ensures { λ r. ⌜ ((code : List (List ℕ)) → Tells code k expected
-        → Decodes code n (now (source .entry)) (now (target .entry)) (now (target .exit)) (now (trellis .entry)) (now (trellis .exit)) r) ⌝ }
+// The control decoder where nothing is refused.
+pub fn control(source: &[u8], target: &mut [u8], n: usize, trellis: &mut [u16]) -> usize
+    requires { ⌜ (n ≤ 864) × (4 * n ≤ length (now source)) × (n ≤ length (now trellis)) × (n ≤ length (now target)) ⌝ }
+    ensures { λ r. ⌜ Finds codes.control n (now (source .entry)) (now (target .entry)) (now (target .exit)) (now (trellis .entry)) (now (trellis .exit)) r ⌝ }
 {
-    let number = refusal(k, n, source.len(), trellis.len(), target.len());
-    if 0 < number {
-        return Valued::Refused(number);
-    }
-    Valued::Value(run(expected, k, source, target, n, trellis))
+    run(CONTROL, 4, source, target, n, trellis)
+}
+
+// The speech decoder where nothing is refused.
+pub fn speech(source: &[u8], target: &mut [u8], n: usize, trellis: &mut [u16]) -> usize
+    requires { ⌜ (n ≤ 864) × (3 * n ≤ length (now source)) × (n ≤ length (now trellis)) × (n ≤ length (now target)) ⌝ }
+    ensures { λ r. ⌜ Finds codes.speech n (now (source .entry)) (now (target .entry)) (now (target .exit)) (now (trellis .entry)) (now (trellis .exit)) r ⌝ }
+{
+    run(SPEECH, 3, source, target, n, trellis)
 }

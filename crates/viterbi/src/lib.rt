@@ -5,24 +5,7 @@ ghost use Rattle.convenc.specs.Generators.{control, speech};
 ghost use Rattle.viterbi.specs.Decoding.{Decodes};
 use base::Valued;
 
-mod inner;
-
-// Rows of expected bits, -1 for 0 and 1 for 1, at each state, its newest bit lowest, when the bit before the state's four was 0
-// (EN 300 392-2, 8.2.3.1.1).
-const CONTROL: [[i8; 16]; 4] = [
-    [-1, 1, 1, -1, -1, 1, 1, -1, -1, 1, 1, -1, -1, 1, 1, -1],
-    [-1, 1, -1, 1, 1, -1, 1, -1, 1, -1, 1, -1, -1, 1, -1, 1],
-    [-1, 1, 1, -1, 1, -1, -1, 1, -1, 1, 1, -1, 1, -1, -1, 1],
-    [-1, 1, 1, -1, -1, 1, 1, -1, 1, -1, -1, 1, 1, -1, -1, 1],
-];
-
-// The same for the three generators of EN 300 395-2, 5.4.3.1, with a row of zeros.
-const SPEECH: [[i8; 16]; 4] = [
-    [-1, 1, 1, -1, 1, -1, -1, 1, 1, -1, -1, 1, -1, 1, 1, -1],
-    [-1, 1, 1, -1, -1, 1, 1, -1, 1, -1, -1, 1, 1, -1, -1, 1],
-    [-1, 1, -1, 1, 1, -1, 1, -1, -1, 1, -1, 1, 1, -1, 1, -1],
-    [0, 0, 0, 0, 0, 0, 0, 0, 0, 0, 0, 0, 0, 0, 0, 0],
-];
+pub mod inner;
 
 // Decodes sym_count steps of four control symbols each: 0 and 1 are bits, every other byte is an erasure. The value is the
 // number of disagreements of the word that was written.
@@ -30,7 +13,11 @@ pub fn dec_sb1(in_buf: &[u8], out_buf: &mut [u8], sym_count: usize, trellis: &mu
     ensures { λ r. ⌜ Decodes control «sym_count» (now («in_buf» .entry)) (now («out_buf» .entry)) (now («out_buf» .exit))
         (now (trellis .entry)) (now (trellis .exit)) r ⌝ }
 {
-    inner::decode(CONTROL, 4, in_buf, out_buf, sym_count, trellis)
+    let refusal = inner::refusal(4, sym_count, in_buf.len(), trellis.len(), out_buf.len());
+    if refusal != 0 {
+        return Valued::Refused(refusal);
+    }
+    Valued::Value(inner::control(in_buf, out_buf, sym_count, trellis))
 }
 
 // The same for steps of three speech symbols.
@@ -43,5 +30,9 @@ pub fn dec_speech(
     ensures { λ r. ⌜ Decodes speech «sym_count» (now («in_buf» .entry)) (now («out_buf» .entry)) (now («out_buf» .exit))
         (now (trellis .entry)) (now (trellis .exit)) r ⌝ }
 {
-    inner::decode(SPEECH, 3, in_buf, out_buf, sym_count, trellis)
+    let refusal = inner::refusal(3, sym_count, in_buf.len(), trellis.len(), out_buf.len());
+    if refusal != 0 {
+        return Valued::Refused(refusal);
+    }
+    Valued::Value(inner::speech(in_buf, out_buf, sym_count, trellis))
 }

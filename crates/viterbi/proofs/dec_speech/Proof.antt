@@ -1,14 +1,28 @@
--- The table is the speech code's.
+-- A refusal changes nothing; without one the decoder runs.
+use mathlib.Core.Path.{refl}
+use native.Mathlib.Omega.{arith}
 use borrow.Author.Needs.{needs}
-use Rattle.convenc.specs.Generators.{speech, tapped}
-use Rattle.viterbi.specs.private.Scores.{mirrored}
-use Rattle.viterbi.proofs.Tables.{speechTable, speech-table, speech-tells}
+use lib.ListN.{length}
+use Rattle.convenc.specs.Generators.{speech}
+use Rattle.viterbi.proofs.Refusals.{accepts}
+use Rattle.viterbi.proofs.Answers.{answered, refused}
 use Rattle.viterbi.proofs.dec_speech.Statement.{statement}
 use Rattle.viterbi.proofs.dec_speech.Tie as tie
 
-decode-requires : tie.Need-decode-requires
-unfolding speechTable tapped mirrored
-decode-requires c κs = speech-table
+refusal-requires : tie.Need-refusal-requires
+refusal-requires c κs = search needs
+
+returns : tie.Need-returns
+returns c =
+    let r = c .before .refusal in
+    refused (omega arith) (r .ensures speech refl)
+
+speech-requires : tie.Need-speech-requires
+speech-requires c κs =
+    let a = c .before .before .before .before .before .before .before .args in
+    let r = c .before .before .before .refusal in
+    let h = accepts (a .sym-count) (length (a .in-buf .now)) (length (a .trellis .now)) (length (a .out-buf .now)) speech (omega (arith, r .ensures speech refl)) in
+    (h .0, h .1, h .2, h .3)
 
 same-length : tie.Need-same-length
 same-length c = search needs
@@ -16,9 +30,11 @@ same-length c = search needs
 same-length-2 : tie.Need-same-length-2
 same-length-2 c = search needs
 
-returns : tie.Need-returns
-unfolding speechTable tapped mirrored
-returns c = c .before .before .before .before .decode .ensures speech speech-tells
+returns-2 : tie.Need-returns-2
+returns-2 c =
+    let r = c .before .before .before .before .before .before .before .before .refusal in
+    answered (omega (arith, r .ensures speech refl)) (c .before .before .before .before .speech .ensures)
 
 pub dec-speech-spec : {M : Type 1} → statement M
-dec-speech-spec = tie.close (tie.spec decode-requires same-length same-length-2 returns)
+dec-speech-spec =
+    tie.close (tie.spec refusal-requires returns speech-requires same-length same-length-2 returns-2)

@@ -15,7 +15,7 @@ use Rattle.trellis.specs.Nearest.{total}
 use Rattle.trellis.specs.Walk.{branch, steps}
 use Rattle.trellis.specs.Trellis.{metric, choice}
 use Rattle.convenc.specs.Generators.{outputs}
-use Rattle.viterbi.specs.Decoding.{disagreements, decoded, cleared}
+use Rattle.viterbi.specs.Decoding.{cleared}
 
 -- ---- signed numbers: z is `up z` less `down z`, and one of the two is 0
 abbrev pub up : ℤ → ℕ
@@ -170,10 +170,4 @@ walk trellis (suc i) s = s % 2 ∷ walk trellis i (earlier (getD trellis i 0 / 2
 -- the walk wrote its bits over the front of the target, in the order of the air, and cleared what it read
 pub record Back (n : ℕ) (trellis trellis′ target target′ : List ℕ) : Type 0 where
   pub word : target′ ≡ written (reverse (walk trellis n 0)) target
-  pub clears : trellis′ ≡ cleared n trellis
-
--- ---- the decoder where nothing is refused
-pub record Finds (code : List (List ℕ)) (n : ℕ) (src target target′ trellis trellis′ : List ℕ) (count : ℕ) : Type 0 where
-  pub counts : count ≡ disagreements code n src (decoded code n src)
-  pub writes : target′ ≡ written (decoded code n src) target
   pub clears : trellis′ ≡ cleared n trellis
