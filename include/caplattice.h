@@ -27,8 +27,8 @@ extern "C" {
 /* The version that this header is of: 1,000,000 times the major, 1,000 times the minor, and the patch number. caplattice_version() is that
  * of the library that was linked. */
 /* tools/boundary/make: version */
-#define CAPLATTICE_VERSION 1000
-#define CAPLATTICE_VERSION_TEXT "0.1.0"
+#define CAPLATTICE_VERSION 2000
+#define CAPLATTICE_VERSION_TEXT "0.2.0"
 /* tools/boundary/make: end */
 uint32_t caplattice_version(void);
 
@@ -42,6 +42,7 @@ enum caplattice_refusal {
     CAPLATTICE_WORD,      /* Reed-Muller data of more than 14 bits, or a word of more than 30 */
     CAPLATTICE_FIELD,     /* mcc over 1,023, mnc over 16,383 or colour over 63 */
     CAPLATTICE_KIND       /* a control kind that is not 1 to 4, or a puncturing mode that is not 0 to 6 */
+    /* 9 is retired: no function returns it, and it will never be given to anything else. A new refusal takes the next number from 10 on. */
 };
 
 enum caplattice_verdict {

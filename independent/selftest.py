@@ -385,6 +385,44 @@ def nearest_words_up_to_twelve(c):
     nearest_words(c, 12, 60)
 
 
+def walk_back(code, n, symbols, others):
+    """The score of state 0 after n steps, the bits that the walk back from there gives, and the state in which it ends. A state is the four
+    newest bits, the newest of weight 8. The states other than 0 begin with the score `others`, or without one."""
+    scores = {0: 0} if others is None else {state: others if state else 0 for state in range(16)}
+    steps = []
+    for step in range(n):
+        received, ways = symbols[len(code) * step: len(code) * (step + 1)], {}
+        for state in range(16):
+            for before in (state % 8 * 2, state % 8 * 2 + 1):
+                if before in scores:
+                    window = [state >> 3 & 1] + [before >> i & 1 for i in (3, 2, 1, 0)]
+                    sent = [sum(window[d] for d in generator) % 2 for generator in code]
+                    cost = sum(1 for s, y in zip(received, sent) if s in (0, 1) and s != y)
+                    ways[state] = min(ways.get(state, (10000, 0)), (scores[before] + cost, before))
+        steps.append({state: before for state, (_, before) in ways.items()})
+        scores = {state: score for state, (score, _) in ways.items()}
+    state, word = 0, []
+    for ways in reversed(steps):
+        word.append(state >> 3)
+        state = ways[state]
+    return scores[0], word[::-1], state
+
+
+def walks_back(c):
+    """The walk back ends in state 0 and gives the nearest word, also where the other states begin with more than four steps can cost. Where
+    they begin with nothing, it may end elsewhere."""
+    chance, astray = random.Random(4), 0
+    for n in list(range(26)) + [80, 184]:
+        for code in (c.CONTROL, c.SPEECH):
+            for symbols in ([0, 1], [0, 1, 255], [0, 255, 255, 255], [255]):
+                received = [chance.choice(symbols) for _ in range(len(code) * n)]
+                far, backwards = c.nearest_by_steps(code, n, received)
+                for others in (None, 4 * len(code) + 1):
+                    same("walk back", walk_back(code, n, received, others), (far, backwards[::-1], 0))
+                astray += walk_back(code, n, received, 0)[2] != 0
+    same("some walk goes astray", astray > 0, True)
+
+
 # ---- refusals: each by itself, and each before the next one in document 01's order
 
 
@@ -675,7 +713,7 @@ def main():
         planted(sys.argv[2:])
     c = loaded(*(compile(source(name), name, "exec") for name in ("tables.py", "coding.py")))
     try:
-        for test in QUICK + (least_distance, nearest_words_up_to_twelve):
+        for test in QUICK + (least_distance, nearest_words_up_to_twelve, walks_back):
             test(c)
     except Wrong as fault:
         sys.exit("selftest: %s: %s" % (test.__name__, fault))

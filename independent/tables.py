@@ -4,7 +4,7 @@ The Reed-Muller parity part (EN 300 392-2, 8.2.3.2) and the class tables of the 
 (EN 300 395-2, table 4) are named there and printed in the original; the rest is printed there.
 """
 
-LIMIT, SHORT, ROOM, BIT, SHUFFLE, WORD, FIELD, KIND, START = range(1, 10)
+LIMIT, SHORT, ROOM, BIT, SHUFFLE, WORD, FIELD, KIND = range(1, 9)  # 9 is retired: a new refusal takes the next number from 10 on
 
 MOST_STEPS = 864
 MOST_ENTRIES = 4096

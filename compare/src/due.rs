@@ -10,8 +10,9 @@ pub const WORD: u8 = 6;
 pub const FIELD: u8 = 7;
 pub const KIND: u8 = 8;
 
-// Document 01's table: the name of each number, and when it is given.
-const REFUSALS: [(&str, &str); 10] = [
+// Document 01's table: the name of each number, and when it is given. 9 is retired (document 02, W-208) and stands here never again: a
+// new refusal takes the next number from 10 on.
+const REFUSALS: [(&str, &str); 9] = [
     ("", ""),
     ("LIMIT", "a count or number exceeds its limit"),
     ("SHORT", "the source holds fewer entries than needed"),
@@ -21,7 +22,6 @@ const REFUSALS: [(&str, &str); 10] = [
     ("WORD", "RM data is 16,384 or more, or RM word is 2^30 or more"),
     ("FIELD", "mcc over 1,023, mnc over 16,383 or colour over 63"),
     ("KIND", "control kind is not 1 to 4, or puncturing mode is not 0 to 6"),
-    ("START", "the trellis walk back does not end in state 0"),
 ];
 
 pub fn name(number: u8) -> &'static str {
@@ -181,7 +181,7 @@ fn needs(entry: &str, numbers: [u64; 3], inputs: usize) -> Result<Needs, u8> {
     })
 }
 
-// The number of the refusal that is due, or 0 where the request is accepted. START (9) never is.
+// The number of the refusal that is due, or 0 where the request is accepted.
 pub fn due(entry: &str, numbers: [u64; 3], source: &[u8], target: usize, trellis: usize) -> u8 {
     let needs = match needs(entry, numbers, source.len()) {
         Ok(needs) => needs,

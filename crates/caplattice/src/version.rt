@@ -4,7 +4,7 @@ ghost use Rattle.caplattice.specs.Version.{version};
 
 #[no_mangle]
 pub extern "C" fn caplattice_version() -> u32
-    ensures { λ r. ⌜ r ≡ version 0 1 0 ⌝ }
+    ensures { λ r. ⌜ r ≡ version 0 2 0 ⌝ }
 {
-    1000
+    2000
 }

@@ -44,11 +44,11 @@ module _ (k : ℕ) (t : List (List ℤ)) (table : Table k t) (src : List ℕ) wh
   pub knowns-le : (i : ℕ) → i ≤ 864 → total known (take (k * i) src) ≤ 3456
   knowns-le i h = omega (arith, total-le known (take (k * i) src) known-le, length-take (k * i) src, symbols-le k i (table .most) h)
 
-  handicap-le : (s : ℕ) → handicap s ≤ 2048
+  handicap-le : (s : ℕ) → handicap s ≤ handicap 1
   handicap-le zero = omega arith
   handicap-le (suc s) = omega arith
 
-  metric-le : (i s : ℕ) → s < 16 → k * i ≤ length src → metric handicap (received k t src i) (mirrored s) ≤ 2048 + knowns i
+  metric-le : (i s : ℕ) → s < 16 → k * i ≤ length src → metric handicap (received k t src i) (mirrored s) ≤ handicap 1 + knowns i
   metric-le zero s h l = omega (arith, handicap-le (mirrored s))
   metric-le (suc i) s h l =
       omega (
@@ -68,13 +68,13 @@ module _ (k : ℕ) (t : List (List ℤ)) (table : Table k t) (src : List ℕ) wh
       (omega (arith, metric-le i s hs l, knowns-le i h)) (omega (arith, knowns-le i h))
 
   -- ---- before the first step
-  first-scores : (s : ℕ) → s < 16 → Stands (getD (set (replicate 16 (pos 4096)) 0 (pos 0)) s (pos 0)) (handicap s) (knowns 0)
+  first-scores : (s : ℕ) → s < 16 → Stands (getD (set (replicate 16 (pos (2 * handicap 1))) 0 (pos 0)) s (pos 0)) (handicap s) (knowns 0)
   first-scores zero h = omega (arith, ap (λ (j : ℕ). total known (take j src)) (mul-zero k))
   first-scores (suc s) h =
-      subst⁻¹ (λ (z : ℤ). Stands z 2048 (knowns 0)) (getD-replicate 15 s (pos 4096) (pos 0) (omega arith))
+      subst⁻¹ (λ (z : ℤ). Stands z (handicap 1) (knowns 0)) (getD-replicate 15 s (pos (2 * handicap 1)) (pos 0) (omega arith))
       (omega (arith, ap (λ (j : ℕ). total known (take j src)) (mul-zero k)))
 
-  pub forward-none : (was : List ℕ) → Forward k t src 0 (set (replicate 16 (pos 4096)) 0 (pos 0)) was was
+  pub forward-none : (was : List ℕ) → Forward k t src 0 (set (replicate 16 (pos (2 * handicap 1))) 0 (pos 0)) was was
   forward-none was = record { scores = λ s h. rw (mirrored-handicap s h) (first-scores s h); choices = λ i h. absurd (omega arith); long = refl; rest = λ i h. refl }
 
   -- ---- one step more
@@ -119,7 +119,7 @@ module _ (k : ℕ) (a b c d : List (List ℤ)) (src : List ℕ) where
   abbrev pub Passed : ℕ → List ℤ → List ℕ → List ℕ → Type 0
   Passed i m was now = (t : List (List ℤ)) → Table k t → RowsOf t a b c d → Forward k t src i m was now
 
-  pub passed-none : (was : List ℕ) → Passed 0 (set (replicate 16 (pos 4096)) 0 (pos 0)) was was
+  pub passed-none : (was : List ℕ) → Passed 0 (set (replicate 16 (pos (2 * handicap 1))) 0 (pos 0)) was was
   passed-none was t table r = forward-none k t table src was
 
   pub passed-more : (i at : ℕ) → at ≡ k * i → k * i + k ≤ length src → (m bs new : List ℤ) (was now : List ℕ) (taken : ℕ) → Passed i m was now

@@ -21,12 +21,11 @@ pub enum Refusal {
     Field = 7,
     /// A control kind that is not 1 to 4, or a puncturing mode that is not 0 to 6.
     Kind = 8,
-    /// The walk back through the trellis does not end in state 0. The library is proved never to answer it.
-    Start = 9,
+    // 9 is retired and may never be given to anything else: a new refusal takes the next number from 10 on.
 }
 
 impl Refusal {
-    /// The refusal of a number from 1 to 9.
+    /// The refusal of a number from 1 to 8. No other number is one: 9 is retired.
     pub const fn from_number(number: u8) -> Option<Refusal> {
         Some(match number {
             1 => Refusal::Limit,
@@ -37,12 +36,11 @@ impl Refusal {
             6 => Refusal::Word,
             7 => Refusal::Field,
             8 => Refusal::Kind,
-            9 => Refusal::Start,
             _ => return None,
         })
     }
 
-    /// Its number, 1 to 9.
+    /// Its number, 1 to 8.
     pub const fn number(self) -> u8 {
         self as u8
     }
@@ -58,7 +56,6 @@ impl Refusal {
             Refusal::Word => "WORD",
             Refusal::Field => "FIELD",
             Refusal::Kind => "KIND",
-            Refusal::Start => "START",
         }
     }
 
@@ -73,7 +70,6 @@ impl Refusal {
             Refusal::Word => "give data below 16,384, or a word below 2^30",
             Refusal::Field => "give mcc up to 1,023, mnc up to 16,383 and colour up to 63",
             Refusal::Kind => "give a control kind from 1 to 4, or a puncturing mode from 0 to 6",
-            Refusal::Start => "report it: the library is proved never to answer this",
         }
     }
 }

@@ -5,7 +5,7 @@ use caplattice::{crc16, interleaver, rm3014, scrambler, tch_reorder, viterbi, Re
 
 #[test]
 fn prints_number_name_and_advice() {
-    for number in 1..=9 {
+    for number in 1..=8 {
         let refusal = Refusal::from_number(number).unwrap();
         assert_eq!(refusal.number(), number);
         let printed = refusal.to_string();
@@ -16,7 +16,13 @@ fn prints_number_name_and_advice() {
         assert!(printed.ends_with(refusal.advice()));
     }
     assert_eq!(Refusal::from_number(0), None);
-    assert_eq!(Refusal::from_number(10), None);
+}
+
+#[test]
+fn nine_is_retired() {
+    for number in 9..=255 {
+        assert_eq!(Refusal::from_number(number), None);
+    }
 }
 
 #[test]
