@@ -1,10 +1,11 @@
--- What an entry answers and leaves, from its refusal number; and what no refusal says of each test.
+-- What an entry answers and leaves, from its refusal number; what no refusal says of each test; and that a chain never gives the retired number.
 -- Assumes nothing.
 use mathlib.Core.Path.{_≡_, refl, ap}
 use mathlib.Core.Bool.{Bool, true, false}
 use Prim.Native.Nat.{ℕ, zero, suc}
 use native.Mathlib.Omega.{arith}
-use Rattle.base.specs.Refusal.{when, outcome, unless, valued}
+use lib.Dec.{eqb}
+use Rattle.base.specs.Refusal.{LIMIT, SHORT, ROOM, BIT, SHUFFLE, WORD, FIELD, KIND, RETIRED, Current, accepted, when, outcome, unless, valued}
 use Rattle.base.specs.declared.Outcome.the-variants.{Done, Refused}
 use Rattle.base.specs.declared.Valued.the-variants as values
 
@@ -33,3 +34,20 @@ value-done (suc n) number value own e h was = absurd (omega arith)
 pub passed : (test : Bool) (number later : ℕ) → when test (suc number) later ≡ 0 → (test ≡ false) × (later ≡ 0)
 passed true number later e = absurd (omega arith)
 passed false number later e = (refl, e)
+
+-- ---- the retired number
+-- what neither a test gives nor the later ones, the chain does not give
+pub when-never : {A : Type 0} {value : A} (test : Bool) {first later : A} → (first ≡ value → ⊥) → (later ≡ value → ⊥) → when test first later ≡ value → ⊥
+when-never true h k = h
+when-never false h k = k
+
+-- a number that differs from the retired one, as two numerals show by computing
+pub differs : {number : ℕ} → eqb number RETIRED ≡ false → Current number
+differs apart e = let z : _≡_ {A = ℕ} 0 1 = cc in omega arith
+
+-- no number in use is the retired one
+pub in-use : Current accepted × Current LIMIT × Current SHORT × Current ROOM × Current BIT × Current SHUFFLE × Current WORD × Current FIELD × Current KIND
+in-use = omega arith
+
+-- `search chain-current` proves of a chain that it never gives the retired number
+pub ruleset chain-current = (when-never, differs)

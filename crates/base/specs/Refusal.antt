@@ -1,5 +1,5 @@
 -- The refusal numbers of document 01, and what an entry leaves when it refuses.
--- An entry's own refusal is a chain of `when`, in the order of document 01: 8, 7, 6, 1, 5, 2, 3, 4, 9.
+-- An entry's own refusal is a chain of `when`, in the order of document 01: 8, 7, 6, 1, 5, 2, 3, 4.
 -- Assumes nothing.
 use mathlib.Core.Path.{_≡_}
 use mathlib.Core.List.{List}
@@ -39,6 +39,15 @@ FIELD = 7
 
 abbrev pub KIND : ℕ
 KIND = 8
+
+-- 9 is retired. It was START, for a walk back that does not end in state 0, and every walk ends there. It may never be given to anything else:
+-- a new refusal takes the next number from 10 on
+abbrev pub RETIRED : ℕ
+RETIRED = 9
+
+-- a number that a call may give: any but the retired one
+abbrev pub Current : ℕ → Type 0
+Current number = number ≡ RETIRED → ⊥
 
 -- no refusal
 abbrev pub accepted : ℕ

@@ -21,6 +21,7 @@ pub const FIELD: u8 = 7;
 
 pub const KIND: u8 = 8;
 
+// 9 is retired: it may never be given for anything else. The next new number is 10.
 pub const START: u8 = 9;
 
 // What an entry that has no value of its own answers.

@@ -5,3 +5,4 @@ pub mod Refusing
 pub mod Running
 pub mod Calls
 pub mod Lent
+pub mod Retired

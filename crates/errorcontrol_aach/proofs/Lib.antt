@@ -2,3 +2,4 @@ pub mod Numbers
 pub mod Chains
 pub mod RoundTrip
 pub mod Examples
+pub mod Retired

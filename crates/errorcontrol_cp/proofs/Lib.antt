@@ -5,3 +5,4 @@ pub mod Words
 pub mod Demand
 pub mod Chains
 pub mod RoundTrip
+pub mod Retired

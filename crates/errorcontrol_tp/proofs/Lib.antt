@@ -6,3 +6,4 @@ pub mod Parts
 pub mod Demand
 pub mod Chains
 pub mod RoundTrip
+pub mod Retired

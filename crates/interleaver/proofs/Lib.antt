@@ -4,3 +4,4 @@ pub mod Walk
 pub mod Block
 pub mod Matrix
 pub mod Cases
+pub mod Retired

@@ -4,3 +4,4 @@ pub mod Walking
 pub mod Carrying
 pub mod Steps
 pub mod Undone
+pub mod Retired

@@ -3,3 +3,4 @@ pub mod Answers
 pub mod VerdictLaws
 pub mod OriginalLaws
 pub mod Examples
+pub mod Retired

@@ -3,3 +3,4 @@ pub mod AtOnce
 pub mod Blocks
 pub mod Fours
 pub mod Starts
+pub mod Retired

@@ -3,3 +3,4 @@ pub mod Dividend
 pub mod Sums
 pub mod Shape
 pub mod Remainder
+pub mod Retired

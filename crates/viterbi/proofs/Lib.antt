@@ -13,3 +13,4 @@ pub mod Walking
 pub mod Answers
 pub mod Tables
 pub mod Promises
+pub mod Retired
