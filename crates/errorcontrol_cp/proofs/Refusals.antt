@@ -23,10 +23,10 @@ pub record SendAccepted (kind : ℕ) (block : List ℕ) (air : ℕ) : Type 0 whe
 
 pub send-accepts : (kind : ℕ) (block : List ℕ) (air : ℕ) → sendRefusal kind block air ≡ accepted → SendAccepted kind block air
 send-accepts kind block air e =
-    let first = passed (not (isKind kind)) 7 _ e in
-    let second = passed (ltb (length block) (dataBits kind)) 1 _ (first .1) in
-    let third = passed (ltb air (airSymbols kind)) 2 _ (second .1) in
-    let fourth = passed (not (bitsOnly (dataBits kind) block)) 3 _ (third .1) in
+    let first = passed (not (isKind kind)) _ _ e in
+    let second = passed (ltb (length block) (dataBits kind)) _ _ (first .1) in
+    let third = passed (ltb air (airSymbols kind)) _ _ (second .1) in
+    let fourth = passed (not (bitsOnly (dataBits kind) block)) _ _ (third .1) in
     record {
       known = not-false (isKind kind) (first .0);
       long = ltb-false (length block) (dataBits kind) (second .0);
@@ -48,10 +48,10 @@ pub record ReceiveAccepted (kind air word trellis : ℕ) : Type 0 where
 
 pub receive-accepts : (kind air word trellis : ℕ) → receiveRefusal kind air word trellis ≡ accepted → ReceiveAccepted kind air word trellis
 receive-accepts kind air word trellis e =
-    let first = passed (not (isKind kind)) 7 _ e in
-    let second = passed (ltb air (airSymbols kind)) 1 _ (first .1) in
-    let third = passed (ltb word (wordBits kind)) 2 _ (second .1) in
-    let fourth = passed (ltb trellis (wordBits kind)) 2 _ (third .1) in
+    let first = passed (not (isKind kind)) _ _ e in
+    let second = passed (ltb air (airSymbols kind)) _ _ (first .1) in
+    let third = passed (ltb word (wordBits kind)) _ _ (second .1) in
+    let fourth = passed (ltb trellis (wordBits kind)) _ _ (third .1) in
     record {
       known = not-false (isKind kind) (first .0);
       long = ltb-false air (airSymbols kind) (second .0);

@@ -13,10 +13,10 @@ use Rattle.viterbi.specs.Decoding.{decodeRefusal}
 pub accepts : (n src trellis dst : ℕ) (code : List (List ℕ)) → 0 ≡ decodeRefusal code n src trellis dst
     → (n ≤ 864) × (length code * n ≤ src) × (n ≤ trellis) × (n ≤ dst)
 accepts n src trellis dst code e =
-    let a = passed (ltb 864 n) 0 _ (sym e) in
-    let b = passed (ltb src (length code * n)) 1 _ (a .1) in
-    let c = passed (ltb trellis n) 2 _ (b .1) in
-    let d = passed (ltb dst n) 2 _ (c .1) in
+    let a = passed (ltb 864 n) _ _ (sym e) in
+    let b = passed (ltb src (length code * n)) _ _ (a .1) in
+    let c = passed (ltb trellis n) _ _ (b .1) in
+    let d = passed (ltb dst n) _ _ (c .1) in
     (ltb-false 864 n (a .0), ltb-false src (length code * n) (b .0), ltb-false trellis n (c .0), ltb-false dst n (d .0))
 
 -- the symbols of so many steps are few
