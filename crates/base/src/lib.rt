@@ -3,8 +3,7 @@
 pub mod inner;
 
 // The refusal numbers of document 01: a count over its limit, a source or a target that is too short, an entry that is no bit,
-// a shuffle that is no permutation, a word or a field that is too large, a kind or a mode that is not known, a path that does
-// not begin in state 0.
+// a shuffle that is no permutation, a word or a field that is too large, a kind or a mode that is not known.
 pub const LIMIT: u8 = 1;
 
 pub const SHORT: u8 = 2;
@@ -21,8 +20,7 @@ pub const FIELD: u8 = 7;
 
 pub const KIND: u8 = 8;
 
-// 9 is retired: it may never be given for anything else. The next new number is 10.
-pub const START: u8 = 9;
+// 9 is retired and may never be given to anything else. The next new number is 10.
 
 // What an entry that has no value of its own answers.
 pub enum Outcome {
