@@ -42,7 +42,8 @@ enum caplattice_refusal {
     CAPLATTICE_WORD,      /* Reed-Muller data of more than 14 bits, or a word of more than 30 */
     CAPLATTICE_FIELD,     /* mcc over 1,023, mnc over 16,383 or colour over 63 */
     CAPLATTICE_KIND       /* a control kind that is not 1 to 4, or a puncturing mode that is not 0 to 6 */
-    /* 9 is retired: no function returns it, and it will never be given to anything else. A new refusal takes the next number from 10 on. */
+    /* 9 is retired: no function returns it, and it will never be given to anything else. A new refusal is written with its number, from
+     * 10 on. */
 };
 
 enum caplattice_verdict {

@@ -10,26 +10,29 @@ pub const WORD: u8 = 6;
 pub const FIELD: u8 = 7;
 pub const KIND: u8 = 8;
 
-// Document 01's table: the name of each number, and when it is given. 9 is retired (document 02, W-208) and stands here never again: a
-// new refusal takes the next number from 10 on.
-const REFUSALS: [(&str, &str); 9] = [
-    ("", ""),
-    ("LIMIT", "a count or number exceeds its limit"),
-    ("SHORT", "the source holds fewer entries than needed"),
-    ("ROOM", "target or trellis holds fewer than needed"),
-    ("BIT", "a used entry of a bits-only input exceeds 1"),
-    ("SHUFFLE", "some whole number above 1 divides both k and a"),
-    ("WORD", "RM data is 16,384 or more, or RM word is 2^30 or more"),
-    ("FIELD", "mcc over 1,023, mnc over 16,383 or colour over 63"),
-    ("KIND", "control kind is not 1 to 4, or puncturing mode is not 0 to 6"),
+// Document 01's table: each number, its name, and when it is given. 9 is retired (document 02, W-208) and may never be given to anything
+// else: a new refusal takes the next number from 10 on.
+const REFUSALS: [(u8, &str, &str); 8] = [
+    (LIMIT, "LIMIT", "a count or number exceeds its limit"),
+    (SHORT, "SHORT", "the source holds fewer entries than needed"),
+    (ROOM, "ROOM", "target or trellis holds fewer than needed"),
+    (BIT, "BIT", "a used entry of a bits-only input exceeds 1"),
+    (SHUFFLE, "SHUFFLE", "some whole number above 1 divides both k and a"),
+    (WORD, "WORD", "RM data is 16,384 or more, or RM word is 2^30 or more"),
+    (FIELD, "FIELD", "mcc over 1,023, mnc over 16,383 or colour over 63"),
+    (KIND, "KIND", "control kind is not 1 to 4, or puncturing mode is not 0 to 6"),
 ];
 
+fn refusal(number: u8) -> Option<&'static (u8, &'static str, &'static str)> {
+    REFUSALS.iter().find(|refusal| refusal.0 == number)
+}
+
 pub fn name(number: u8) -> &'static str {
-    REFUSALS.get(number as usize).map_or("(no such number)", |refusal| refusal.0)
+    refusal(number).map_or("(no such number)", |refusal| refusal.1)
 }
 
 pub fn reason(number: u8) -> &'static str {
-    REFUSALS.get(number as usize).map_or("(no such number)", |refusal| refusal.1)
+    refusal(number).map_or("(no such number)", |refusal| refusal.2)
 }
 
 const MOST_STEPS: u64 = 864;

@@ -6,7 +6,8 @@ from pathlib import Path
 ROOT = Path(__file__).resolve().parent.parent.parent
 NUMBERS = ("u8", "u16", "u32", "usize")
 SLICES = ("&[u8]", "&mut [u8]", "&mut [u16]")
-REFUSALS = ("LIMIT", "SHORT", "ROOM", "BIT", "SHUFFLE", "WORD", "FIELD", "KIND")
+# 9 is retired and may never be given to anything else: a new refusal takes the next number from 10 on.
+REFUSALS = {"LIMIT": 1, "SHORT": 2, "ROOM": 3, "BIT": 4, "SHUFFLE": 5, "WORD": 6, "FIELD": 7, "KIND": 8}
 ORDER = ("KIND", "FIELD", "WORD", "LIMIT", "SHUFFLE", "SHORT", "ROOM", "BIT")
 MEMBERS = ("verdict", "value", "disagreements", "place", "erasures", "bits")
 
