@@ -51,7 +51,7 @@ first-scored (some x) (some y) c d h = go (ltb (y + d) (x + c))
     go false = tt
 
 -- the word of zeros leads to state 0
-pub zero-scored : (cs : List (ℕ → ℕ)) → IsSome (score cs 0)
+zero-scored : (cs : List (ℕ → ℕ)) → IsSome (score cs 0)
 zero-scored [] = tt
 zero-scored (c ∷ cs) = first-scored (score cs 0) (score cs 1) (c 0) (c 1) (zero-scored cs)
 
@@ -138,23 +138,22 @@ module _ (start : ℕ → ℕ) (most : ℕ) (zeroth : start 0 ≡ 0) (others : (
       (k .0 (2 * s + 0) (omega arith)) (k .0 (2 * s + 1) (omega arith)) (score cs (before 0 s)) (score cs (before 1 s))
       (beside cs (before 0 s) (omega arith) (k .1)) (beside cs (before 1 s) (omega arith) (k .1)) r)
 
-  -- the same walk
-  same-bits : (cs : List (ℕ → ℕ)) (s : ℕ) → s < 16 → Bounded most cs → IsSome (score cs s) → bitsBack bestWay cs s ≡ trace start cs s
-  same-bits [] s h k r = refl
-  same-bits (c ∷ cs) s h k r =
-      ap (λ (l : List ℕ). s / 8 ∷ l)
-      (same-bits cs (before (bestWay c cs s) s) (bestWay-lt c cs s) (k .1) (stays c cs s r) ∙ ap (λ (x : ℕ). trace start cs (before x s)) (same-choice c cs s h k r))
-
-  same-end : (cs : List (ℕ → ℕ)) (s : ℕ) → s < 16 → Bounded most cs → IsSome (score cs s) → endsIn bestWay cs s ≡ begin start cs s
-  same-end [] s h k r = refl
-  same-end (c ∷ cs) s h k r =
-      same-end cs (before (bestWay c cs s) s) (bestWay-lt c cs s) (k .1) (stays c cs s r) ∙ ap (λ (x : ℕ). begin start cs (before x s)) (same-choice c cs s h k r)
+  -- the same walk: its bits and its end
+  same-walk : (cs : List (ℕ → ℕ)) (s : ℕ) → s < 16 → Bounded most cs → IsSome (score cs s)
+      → (bitsBack bestWay cs s ≡ trace start cs s) × (endsIn bestWay cs s ≡ begin start cs s)
+  same-walk [] s h k r = (refl, refl)
+  same-walk (c ∷ cs) s h k r =
+      let same = same-walk cs (before (bestWay c cs s) s) (bestWay-lt c cs s) (k .1) (stays c cs s r) in
+      let way = same-choice c cs s h k r in (
+        ap (λ (l : List ℕ). s / 8 ∷ l) (same .0 ∙ ap (λ (x : ℕ). trace start cs (before x s)) way),
+        same .1 ∙ ap (λ (x : ℕ). begin start cs (before x s)) way,
+      )
 
   pub starts-at-zero : (cs : List (ℕ → ℕ)) → Bounded most cs → begin start cs 0 ≡ 0
-  starts-at-zero cs k = sym (same-end cs 0 (omega arith) k (zero-scored cs)) ∙ walk-ends cs
+  starts-at-zero cs k = sym (same-walk cs 0 (omega arith) k (zero-scored cs) .1) ∙ walk-ends cs
 
   pub walk-traced : (cs : List (ℕ → ℕ)) → Bounded most cs → bitsBack bestWay cs 0 ≡ trace start cs 0
-  walk-traced cs k = same-bits cs 0 (omega arith) k (zero-scored cs)
+  walk-traced cs k = same-walk cs 0 (omega arith) k (zero-scored cs) .0
 
   pub score-kept : (cs : List (ℕ → ℕ)) → Bounded most cs → score cs 0 ≡ some (metric start cs 0)
   score-kept cs k = go (score cs 0) (zero-scored cs) (beside cs 0 (omega arith) k)

@@ -23,10 +23,10 @@ use Rattle.trellis.proofs.Decoder.{decode-nearest, decode-distance}
 use Rattle.convenc.specs.Generators.{outputs}
 use Rattle.base.specs.declared.Valued.the-variants.{Value, Refused}
 use Rattle.viterbi.specs.Decoding.{disagreements, decoded, decodeRefusal, Decodes}
-use Rattle.viterbi.specs.private.Scores.{down, Marks, Stands, mirrored, earlier, Table, told, Tells, handicap, received, Forward, walk, Back}
+use Rattle.viterbi.specs.private.Scores.{down, Marks, Stands, mirrored, earlier, Table, told, Tells, handicap, received, Forward, walk, walkEnd, Back}
 use Rattle.viterbi.specs.private.Finding.{Finds}
 use Rattle.viterbi.proofs.Signed.{reads}
-use Rattle.viterbi.proofs.States.{mirrored-newest, mirrored-earlier}
+use Rattle.viterbi.proofs.States.{mirrored-back, mirrored-newest, mirrored-earlier}
 use Rattle.viterbi.proofs.Windows.{told-bits}
 use Rattle.viterbi.proofs.Walking.{few, far-used}
 use Rattle.viterbi.proofs.Pass.{scores-small, knowns-le}
@@ -64,6 +64,12 @@ module _ (k : ℕ) (t : List (List ℤ)) (src trellis : List ℕ) where
       ap₂ (λ (x : ℕ) (l : List ℕ). x ∷ l) (mirrored-newest s h)
       (walk-is n (step n s) (omega arith) (λ i p. d i (omega arith)) ∙ ap (trace handicap (received k t src n)) (step-is n s h d))
 
+  end-is : (n s : ℕ) → s < 16 → Chosen n → walkEnd trellis n s ≡ mirrored (begin handicap (received k t src n) (mirrored s))
+  end-is zero s h d = sym (mirrored-back s h)
+  end-is (suc n) s h d =
+      end-is n (step n s) (omega arith) (λ i p. d i (omega arith))
+      ∙ ap (λ (y : ℕ). mirrored (begin handicap (received k t src n) y)) (step-is n s h d)
+
 -- ---- the walk ends in state 0
 others : (s : ℕ) → 0 < s → 4 * 4 < handicap s
 others zero h = absurd (omega arith)
@@ -72,6 +78,11 @@ others (suc s) h = omega arith
 module _ (k : ℕ) (t : List (List ℤ)) (table : Table k t) (src : List ℕ) (n : ℕ) where
   starts : begin handicap (received k t src n) 0 ≡ 0
   starts = starts-at-zero handicap k refl (λ s h. omega (arith, others s h, table .most)) (received k t src n) (few (told k t) k (told-bits k t table) src n)
+
+  -- so does the decoder's own walk, over the choices that its pass wrote
+  pub own-walk-ends : (m : List ℤ) (was now : List ℕ) → Forward k t src n m was now → walkEnd now n 0 ≡ 0
+  unfolding mirrored
+  own-walk-ends m was now f = end-is k t src now n 0 (omega arith) (f .choices) ∙ ap mirrored starts
 
   -- what was passed over, and the walk back over its choices
   module _ (hn : n ≤ 864) (room : k * n ≤ length src) (m : List ℤ) (was now now′ target target′ : List ℕ)

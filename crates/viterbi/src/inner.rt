@@ -10,7 +10,7 @@ ghost use Rattle.base.specs.Bits.{known};
 ghost use Rattle.trellis.specs.Nearest.{total};
 ghost use Rattle.convenc.specs.Generators as codes;
 ghost use Rattle.viterbi.specs.Decoding.{decodeRefusal};
-ghost use Rattle.viterbi.specs.private.Scores.{Sixteen, Holds, Marks, Small, Trit, Trits, Stands, Table, Tells, Rows, classOf, Classes, branchOf, firstWay, secondWay, better, oldest, Turned, Forward, Back, down};
+ghost use Rattle.viterbi.specs.private.Scores.{Sixteen, Holds, Marks, Small, Trit, Trits, Stands, Table, Tells, Rows, classOf, Classes, branchOf, firstWay, secondWay, better, oldest, Turned, Forward, walkEnd, Back, down};
 ghost use Rattle.viterbi.specs.private.Finding.{Finds};
 use base::LIMIT;
 use base::ROOM;
@@ -190,7 +190,8 @@ fn advance(old: Scores, b: [i16; 16]) -> Turn
     }
 }
 
-// The pass over n steps: the scores after them, and the choices at each in the trellis.
+// The pass over n steps: the scores after them, and the choices at each in the trellis. The walk back over these choices from state 0
+// ends in state 0, so nobody has to look where it ends.
 fn forward(
     expected: [[i8; 16]; 4],
     k: usize,
@@ -199,7 +200,8 @@ fn forward(
     trellis: &mut [u16],
 ) -> Scores
     requires { ⌜ Table k expected × (n ≤ 864) × (k * n ≤ length (now source)) × (n ≤ length (now trellis)) ⌝ }
-    ensures { λ r. ⌜ Forward k expected (now (source .entry)) n (r .m) (now (trellis .entry)) (now (trellis .exit)) ⌝ }
+    ensures { λ r. ⌜ Forward k expected (now (source .entry)) n (r .m) (now (trellis .entry)) (now (trellis .exit))
+        × (walkEnd (now (trellis .exit)) n 0 ≡ 0) ⌝ }
 {
     let classes = symbol_classes();
     let a = rows(expected[0]);

@@ -167,6 +167,11 @@ abbrev pub walk : List ℕ → ℕ → ℕ → List ℕ
 walk trellis zero s = []
 walk trellis (suc i) s = s % 2 ∷ walk trellis i (earlier (getD trellis i 0 / 2 ^ s % 2) s)
 
+-- the state in which it ends
+abbrev pub walkEnd : List ℕ → ℕ → ℕ → ℕ
+walkEnd trellis zero s = s
+walkEnd trellis (suc i) s = walkEnd trellis i (earlier (getD trellis i 0 / 2 ^ s % 2) s)
+
 -- the walk wrote its bits over the front of the target, in the order of the air, and cleared what it read
 pub record Back (n : ℕ) (trellis trellis′ target target′ : List ℕ) : Type 0 where
   pub word : target′ ≡ written (reverse (walk trellis n 0)) target

@@ -10,6 +10,7 @@ use lib.ListN.{length, getD, length-set}
 use Rattle.viterbi.specs.private.Scores.{Forward}
 use Rattle.viterbi.proofs.Branches.{table-trit, rows-trit, branch-small}
 use Rattle.viterbi.proofs.Pass.{step-room, step-place, scores-small, Passed, passed-none, passed-more}
+use Rattle.viterbi.proofs.Answers.{own-walk-ends}
 use Rattle.viterbi.proofs.inner.forward.Statement.{statement}
 use Rattle.viterbi.proofs.inner.forward.Tie as tie
 
@@ -135,8 +136,9 @@ returns c =
     let a = c .before .before .before .before .before .before .before .before .before .before .before .before .before in
     let l = c .before .loop in
     let e : l .i ≡ a .args .n = omega arith in
-    subst (λ (i : ℕ). Forward (a .args .k) (a .args .t1) (a .args .source .now) i (l .scores .m) (a .args .trellis .now) (l .trellis)) e
-    (l .inv .3 (a .args .t1) (a .pre .0) (c .before .before .before .before .before .before .before .before .rows .ensures, c .before .before .before .before .before .before .rows2 .ensures, c .before .before .before .before .rows3 .ensures, c .before .before .rows4 .ensures))
+    let done = subst (λ (i : ℕ). Forward (a .args .k) (a .args .t1) (a .args .source .now) i (l .scores .m) (a .args .trellis .now) (l .trellis)) e
+    (l .inv .3 (a .args .t1) (a .pre .0) (c .before .before .before .before .before .before .before .before .rows .ensures, c .before .before .before .before .before .before .rows2 .ensures, c .before .before .before .before .rows3 .ensures, c .before .before .rows4 .ensures)) in
+    (done, own-walk-ends (a .args .k) (a .args .t1) (a .pre .0) (a .args .source .now) (a .args .n) (l .scores .m) (a .args .trellis .now) (l .trellis) done)
 
 pub forward-spec : {M : Type 1} → statement M
 forward-spec =

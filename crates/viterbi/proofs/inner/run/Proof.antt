@@ -31,7 +31,7 @@ cost-requires c κs =
     let f = c .before .before .before .before .before .before .before .before .before .before .before .forward in
     let b = c .before .before .before .before .before .back in
     count-asks (a .args .k) (a .args .expected) (a .pre .0) (a .args .source .now) (a .args .n) (a .pre .1) (a .pre .2) (f .result .m) (a .args .trellis .now)
-    (f .last .1 .1 .1 .1 .0) (b .last .1 .0) (a .args .target .now) (b .last .1 .1 .0) (f .ensures) (b .ensures) (c .unerased .result) (c .unerased .ensures)
+    (f .last .1 .1 .1 .1 .0) (b .last .1 .0) (a .args .target .now) (b .last .1 .1 .0) (f .ensures .0) (b .ensures) (c .unerased .result) (c .unerased .ensures)
 
 same-length : tie.Need-same-length
 same-length c = search needs
@@ -46,7 +46,7 @@ returns c code tells =
     let b = c .before .before .before .before .before .before .back in
     let u = c .before .unerased in
     found (a .args .k) (a .args .expected) (a .pre .0) (a .args .source .now) (a .args .n) (a .pre .1) (a .pre .2) (f .result .m) (a .args .trellis .now)
-    (f .last .1 .1 .1 .1 .0) (b .last .1 .0) (a .args .target .now) (b .last .1 .1 .0) (f .ensures) (b .ensures) code tells
+    (f .last .1 .1 .1 .1 .0) (b .last .1 .0) (a .args .target .now) (b .last .1 .1 .0) (f .ensures .0) (b .ensures) code tells
     (u .result) (c .cost .result) (u .ensures) (c .cost .ensures)
 
 pub run-spec : {M : Type 1} → statement M
