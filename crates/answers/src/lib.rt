@@ -1,6 +1,8 @@
 // What a record is answered with: the chain of its kind, on its scrambling start and its symbols.
 // Added by us (document 01, "The runner"); nothing here is ported.
 // A caller gets one answer for every kind, with the AACH verdict inside it.
+#![tactic(auto)]
+
 ghost use Rattle.std.specs.Prelude.{◌≡◌, ◌≤◌, ◌<◌, length, get_or};
 ghost use Rattle.answers.specs.private.Chains.{control_answer, speech_answer};
 ghost use Rattle.answers.specs.Answering.{start_of, of_received, of_judged, chain_of, answer_of};

@@ -1,5 +1,7 @@
 // What every crate of the house shares: refusal numbers and the answer that carries one, bits, symbols,
 // and the lists that a loop over places leaves behind. The definitions stand in specs/, their laws in proofs/.
+#![tactic(auto)]
+
 pub mod inner;
 
 // The refusal numbers of document 01: a count over its limit, a source or a target that is too short, an entry that is no bit,

@@ -1,6 +1,8 @@
 // The comparison of a mother word with a depunctured one.
 // Ported from lmac/components/convenc.rs; changed: the answer is an enum; what differs and what matched are gathered in loops of
 // their own. A caller gets how many entries matched, or that some entry differs; erasures of the depunctured word are skipped.
+#![tactic(auto)]
+
 ghost use Rattle.std.specs.Prelude.{◌≡◌, ◌≤◌, min, length, take};
 ghost use Rattle.comparing.specs.Comparing.{compare};
 ghost use Rattle.comparing.specs.private.Gathering.{counts, difference, unerased, differing};

@@ -2,6 +2,8 @@
 // Ported from lmac/components/convenc.rs; changed: an encoder goes in by value and is handed back, and the speech encoder may be
 // lent too; what the original panics on is refused by number.
 // A caller gets the whole output or, beside a refusal, nothing written and the encoder as it was.
+#![tactic(auto)]
+
 ghost use Rattle.std.specs.Prelude.{◌≡◌, [], ◌∷◌, ◌+◌, ◌*◌, ◌≤◌, length, take};
 ghost use Rattle.std.proofs.lemmas.List.Edits.{sets};
 ghost use Rattle.base.specs.Refusal.{accepted};

@@ -1,6 +1,8 @@
 // The 16-bit check register of ITU-T, over entries that hold one bit each and over packed bytes.
 // Ported from lmac/components/crc16.rs; changed: the byte form answers a refusal where the original panics, and the
 // control check, which the original makes in its send chain, is written here. A caller gets the register after the bits.
+#![tactic(auto)]
+
 ghost use Rattle.std.specs.Prelude.{◌≡◌, ◌*◌, ◌/◌, ◌≤◌, ◌<◌, length, take};
 ghost use Rattle.base.specs.Refusal.{valued};
 ghost use Rattle.base.specs.Places.{tabulate};

@@ -1,6 +1,8 @@
 // The chains of the access assignment channel: 14 data bits to 30 air bits, and 30 air bits to a verdict.
 // Ported from lmac/components/errorcontrol.rs, encode_aach and decode_aach; changed: bits stand one to an entry in lent slices,
 // what does not fit is refused, and receiving answers the verdict with the data bits as a number.
+#![tactic(auto)]
+
 ghost use Rattle.std.specs.Prelude.{◌≡◌, true, ◌≤◌, ◌<◌, ◌^◌, length, take};
 ghost use Rattle.base.specs.Bits.{bits_only};
 ghost use Rattle.base.specs.Digits.{digits, number};

@@ -2,6 +2,8 @@
 // Ported from lmac/components/errorcontrol.rs (encode_cp, decode_cp); changed: a kind stands for the logical channel, the
 // start value is always the caller's, erasures are received, and the whole decoded word is written with its count of
 // disagreements. A caller gets the word whose sending is nearest to what was received, and whether its check agrees.
+#![tactic(auto)]
+
 ghost use Rattle.std.specs.Prelude.{◌≡◌, true, ◌+◌, ◌*◌, ◌≤◌, eqb, length, take, replicate};
 ghost use Rattle.base.specs.Refusal.{accepted, checked};
 ghost use Rattle.base.specs.Bits.{bits_only};

@@ -1,6 +1,8 @@
 // The speech slot's send and receive chains: 274 codec bits to 432 air symbols and back, whole or second half.
 // Ported from lmac/components/errorcontrol.rs (encode_tp, decode_tp); changed: slices of any length, erasures, second-half receive,
 // a count of disagreements and refusals. A caller gets the codec bits that the nearest word and the uncoded places hold.
+#![tactic(auto)]
+
 ghost use Rattle.std.specs.Prelude.{◌≡◌, true, ◌≤◌, eqb, length, take, drop, replicate};
 ghost use mathlib.Core.List.{◌++◌, map, foldr, zip_with};
 ghost use Rattle.base.specs.Refusal.{checked};

@@ -1,6 +1,8 @@
 // The block interleaver (EN 300 392-2, 8.2.4.1) and the matrix interleaver (EN 300 395-2, 5.5.3), each with its inverse.
 // Ported from lmac/components/interleaver.rs; changed: refusals take the place of the asserts, a shuffle that is no permutation is refused,
 // and places are found by adding. A caller gets its target with each entry at its place, or a refusal number and the target as it was.
+#![tactic(auto)]
+
 ghost use Rattle.std.specs.Prelude.{◌≡◌, ◌+◌, ◌%◌, ◌≤◌, ◌<◌, length};
 ghost use Rattle.base.specs.Refusal.{Leaves};
 ghost use Rattle.base.specs.Places.{written, gather, scatter};

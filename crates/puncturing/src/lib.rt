@@ -1,6 +1,8 @@
 // Puncturing in seven modes: which entries of a mother word are sent, and where they stand when they come back.
 // Ported from lmac/components/convenc.rs; changed: a mode is a number that its P, t and period are looked up by; what the original
 // panics on is refused by number. A caller gets the whole output or, beside a refusal, nothing written.
+#![tactic(auto)]
+
 ghost use Rattle.std.specs.Prelude.{◌≡◌, [], ℕ, ◌+◌, ◌*◌, ◌≤◌, ◌<◌, length, get_or};
 ghost use Rattle.base.specs.Refusal.{Leaves};
 ghost use Rattle.base.specs.Places.{written};

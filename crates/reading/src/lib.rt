@@ -2,6 +2,8 @@
 // written, what is kept at the buffer's front, and whether to go on.
 // Added by us; nothing here is ported.
 // A caller gets the first turn, and from each turn the next. It cannot make one up.
+#![tactic(auto)]
+
 pub mod inner;
 
 ghost use Rattle.std.specs.Prelude.{true, false, ◌≡◌};

@@ -1,6 +1,8 @@
 // Recordings: records of one kind byte, a scrambling start and symbols, one after the other.
 // Added by us (document 01, "The runner"); nothing here is ported.
 // A caller gets what stands at a place of a recording, and a reader that hands out one record at a time.
+#![tactic(auto)]
+
 ghost use Rattle.std.specs.Prelude.{◌≡◌};
 ghost use Rattle.records.specs.Kinds.{symbols_of};
 ghost use Rattle.records.specs.Recording.{step_at};

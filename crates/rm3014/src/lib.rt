@@ -1,6 +1,8 @@
 // The code RM(30,14) of the access field: code words, the syndrome of a received word, and the verdict on it.
 // Ported from lmac/components/rm3014.rs; changed: what is no data word or no 30-bit word is refused, the decoder says
 // what it found, and the column syndromes, which are worked out there as it is compiled, are written out.
+#![tactic(auto)]
+
 ghost use Rattle.std.specs.Prelude.{◌≡◌, [], ◌<◌, get_or};
 ghost use Rattle.base.specs.Refusal.{valued};
 ghost use Rattle.rm3014.specs.Code.{table, code_word, upwards, columns, syndrome, data_of};

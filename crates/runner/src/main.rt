@@ -1,6 +1,8 @@
 // The runner: a recording on standard input, its lines on standard output (document 01).
 // Added by us; nothing here is ported. `reading` decides what is written, what is kept and when to end;
 // this reads, writes, and says how it ended.
+#![tactic(auto)]
+
 mod ending;
 mod terminal;
 mod transfer;

@@ -1,6 +1,8 @@
 // The scrambling register, and what it makes of a block that holds one bit, or one received symbol, in each entry.
 // Ported from lmac/components/scrambler.rs; changed: a block is a lent slice, sending refuses what is no bit, receiving is a
 // form of its own that keeps erasures, and fields out of range are refused. A caller gets its block scrambled in place.
+#![tactic(auto)]
+
 ghost use Rattle.std.specs.Prelude.{◌≡◌, ℕ, ◌+◌, ◌*◌, ◌/◌, ◌%◌, ◌^◌, ◌≤◌, ◌<◌, length, get_or};
 ghost use Rattle.base.specs.Refusal.{Leaves, valued};
 ghost use Rattle.base.specs.Places.{tabulate};

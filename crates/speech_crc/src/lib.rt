@@ -1,6 +1,8 @@
 // The check of speech class 2: seven remainder bits and a parity bit.
 // Ported from speech_crc in lmac/components/errorcontrol.rs; changed: slices of any length, a lent target, refusal numbers,
 // and the parity runs over the 60 data bits alone where the original's runs over the whole slice.
+#![tactic(auto)]
+
 ghost use Rattle.std.specs.Prelude.{◌≡◌, ◌+◌, ◌-◌, ◌%◌, ◌≤◌, length, get_or};
 ghost use mathlib.Core.List.{[], ◌∷◌, ◌++◌, foldr};
 ghost use Rattle.base.specs.Places.{written, tabulate};

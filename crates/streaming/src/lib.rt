@@ -2,4 +2,6 @@
 // Added by us; nothing here is ported.
 // specs/Runner.antt says what the lines of a recording are. Everything here asks something of its
 // caller; a program comes to it through `reading`.
+#![tactic(auto)]
+
 pub mod inner;

@@ -1,6 +1,8 @@
 // The Viterbi decoders of the control and the speech code. Ported from lmac/components/viterbi.rs; changed: one routine over
 // tables of expected bits for both codes, trellis and target lent by the caller, refusal numbers instead of asserts, and the
 // disagreements counted. A caller gets the nearest word and how many unerased symbols disagree with it.
+#![tactic(auto)]
+
 ghost use Rattle.convenc.specs.Generators.{control, speech};
 ghost use Rattle.viterbi.specs.Decoding.{Decodes};
 
