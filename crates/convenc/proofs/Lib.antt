@@ -4,5 +4,4 @@ pub mod Taps
 pub mod Refusing
 pub mod Running
 pub mod Calls
-pub mod Lent
 pub mod Retired

@@ -18,7 +18,7 @@ use base::{BIT, LIMIT, Outcome, ROOM};
 pub mod inner;
 
 // The control encoder: the last four bits it took, the newest first.
-#[derive(Drop)]
+#[derive(Clone, Copy)]
 pub struct ConvEncState {
     pub delayed: [u8; 4],
 }
@@ -31,7 +31,7 @@ pub struct ConvEncoded {
 }
 
 // The speech encoder: the last four bits it took, the newest first.
-#[derive(Drop)]
+#[derive(Clone, Copy)]
 pub struct SpeechConvEncState {
     pub delayed: [u8; 4],
 }
@@ -68,7 +68,7 @@ fn encode_refusal(rate: usize, delayed: [u8; 4], input: &[u8], room: usize) -> u
 }
 
 // The codes that an encoder follows: control, the first three generators of control, speech.
-#[derive(Drop)]
+#[derive(Clone, Copy)]
 enum Code {
     Control,
     ControlThird,
@@ -163,7 +163,7 @@ fn last_bits(input: &[u8]) -> [u8; 4]
 }
 
 // The last four bits that an encoder took, the newest first. They are handed on from bit to bit.
-#[derive(Drop)]
+#[derive(Clone, Copy)]
 struct DelayedBits {
     delayed: [u8; 4],
 }
