@@ -29,7 +29,7 @@ const PERIOD: [usize; 7] = [8, 8, 8, 8, 6, 12, 24];
 // After how many outputs i(j) passes a position over. No count goes past 4,096, so that stands for never.
 const RUN: [usize; 7] = [4096, 4096, 65, 35, 4096, 4096, 4096];
 
-#[derive(Drop)]
+#[derive(Clone, Copy)]
 struct Puncturer {
     t: usize,
     period: usize,
@@ -38,7 +38,7 @@ struct Puncturer {
 
 // Where the next output is kept from: entry index of P, in the period whose mother entries begin at base.
 // Before the output numbered skip a position is passed over.
-#[derive(Drop)]
+#[derive(Clone, Copy)]
 struct Kept {
     base: usize,
     index: usize,
@@ -138,7 +138,7 @@ fn after_periods(p: Puncturer, whole: usize) -> Kept
 }
 
 // Puncturing takes outputs from their mother places, depuncturing puts entries back to them.
-#[derive(Drop)]
+#[derive(Clone, Copy)]
 enum Direction {
     Puncturing,
     Depuncturing,
