@@ -1,0 +1,15 @@
+use mathlib.Core.Path.{sym, ◌∙◌}
+use lib.ListN.{length}
+use Rattle.base.specs.Places.{written}
+use Rattle.interleaver.specs.Interleaving.{matrix_deinterleaved}
+use Rattle.base.proofs.Refusals.{done}
+use Rattle.interleaver.proofs.Matrix.{matrix_accepted, matrix_back}
+use Rattle.interleaver.proofs.matrix_deinterleave.Goals as goal
+
+pub returns : goal.returns
+returns c =
+    let g = c.args in
+    let r = c.matrix_refusal-refused in
+    let fits = matrix_accepted g.lines g.columns (length g.input.now) (length g.output.now) (sym c.matrix_refusal-refused.ensures ∙ c.if-refused-ne0.false) in
+    done r.result _ (written (matrix_deinterleaved g.lines g.columns g.input.now) g.output.now) g.output.now _ r.ensures c.if-refused-ne0.false
+    (c.move_lines.ensures ∙ matrix_back g.lines g.columns g.input.now g.output.now fits.room)

@@ -1,0 +1,13 @@
+-- Before each turn the line's first i entries are at their places, and the next place is i lines on from the line's own.
+use mathlib.Core.Path.{◌≡◌}
+use Prim.Native.Nat.{◌+◌, ◌*◌, ◌≤◌, ◌-◌}
+use lib.ListN.{length, drop}
+use Rattle.base.specs.Places.{scatter}
+use Rattle.interleaver.proofs.move_line.Given as goal
+
+abbrev pub invariant-loop-i : goal.invariant-loop-i
+invariant-loop-i l =
+    (l.i ≤ l.columns) × (length l.output ≡ length l.initial.output) × (l.at ≡ l.i * l.lines + l.line) × (l.output ≡ scatter (λ k. k * l.lines + l.line) l.i (drop l.first l.input) l.initial.output)
+
+abbrev pub decreases-loop-i : goal.decreases-loop-i
+decreases-loop-i l = l.columns - l.i

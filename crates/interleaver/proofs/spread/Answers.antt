@@ -1,0 +1,21 @@
+use mathlib.Core.Path.{refl, ap, ◌∙◌}
+use lib.ListN.{length-set}
+use Rattle.base.proofs.Moves.{scatter_none}
+use Rattle.interleaver.specs.private.Walk.{onward, walk}
+use Rattle.interleaver.proofs.Walk.{walk_none, walk_more, spread_more}
+use native.Mathlib.Omega.{arith}
+use Rattle.interleaver.proofs.spread.Goals as goal
+
+pub loop-i-init : goal.loop-i-init
+loop-i-init c = (omega arith, refl, walk_none _ _ _, scatter_none _ _ _)
+
+pub loop-i-preserved : goal.loop-i-preserved
+loop-i-preserved c =
+    let l = c.loop-i in
+    let a = c.args in
+    let place = walk a.start a.step a.count in (
+      omega arith,
+      simp length-set l.invariant.1,
+      c.advance-at.ensures ∙ ap (onward a.step a.count) l.invariant.2 ∙ walk_more a.start a.step a.count l.i,
+      spread_more place l.i l.at a.input.now a.output.now l.output l.invariant.2 l.invariant.3,
+    )
