@@ -132,3 +132,10 @@ way_stands p q b m n c d k e sp sq sb h = go (lt_z (q -ℤ b) (p +ℤ b)) refl
     go false f =
         let l : ltb (n + d) (m + c) ≡ false = le-ltb (n + d) (m + c) (omega (arith, less_no (q -ℤ b) (p +ℤ b) f, first, second)) in
         rw l (first, refl)
+
+-- the choice at state j, of the two ways into it
+abbrev pub choice_at : List ℤ → List ℤ → ℕ → ℕ
+choice_at p q j = oldest (get_or p j (pos 0)) (get_or q j (pos 0))
+
+pub choice_at_lt : (p q : List ℤ) (j : ℕ) → choice_at p q j < 2
+choice_at_lt p q j = oldest_lt (get_or p j (pos 0)) (get_or q j (pos 0))
