@@ -1,0 +1,117 @@
+// For C. Made by tools/boundary/make from crates/caplattice/src/coding.rt.
+ghost use Rattle.std.specs.Prelude.{◌≡◌, length};
+ghost use Rattle.base.specs.Refusal.{outcome, Leaves};
+ghost use Rattle.base.specs.Places.{written};
+ghost use Rattle.convenc.specs.declared.ConvEncoded.{ConvEncoded};
+ghost use Rattle.convenc.specs.declared.SpeechConvEncoded.{SpeechConvEncoded};
+ghost use Rattle.convenc.specs.Generators.{control, control_third, speech, Encoded};
+ghost use Rattle.puncturing.specs.Puncturing.{puncture_refusal, punctured, depuncture_refusal, depunctured};
+ghost use Rattle.comparing.specs.Comparing.{compare};
+ghost use Rattle.viterbi.specs.Decoding.{Decodes};
+ghost use Rattle.caplattice.specs.Answer.{saying, valued_report, compared_report, encoded_report, delays_number, delays_in};
+ghost use Rattle.caplattice.specs.Promises.{Answers, Tells};
+
+#[unsafe(no_mangle)]
+pub extern "C" fn caplattice_encode(
+    delays: u32,
+    source: &[u8],
+    target: &mut [u8],
+    answer: &mut [u64; 6],
+) -> u8
+    ensures { Answers (λ (x : ConvEncoded). Encoded control (delays_in delays) source.now target.old x.outcome x.state.delayed target.new)
+        (λ x. Tells (encoded_report x.outcome (delays_number x.state.delayed) answer.old) result answer.new) }
+{
+    caplattice::coding::caplattice_encode(delays, source, target, answer)
+}
+
+#[unsafe(no_mangle)]
+pub extern "C" fn caplattice_encode_rate1_3(
+    delays: u32,
+    source: &[u8],
+    target: &mut [u8],
+    answer: &mut [u64; 6],
+) -> u8
+    ensures { Answers (λ (x : ConvEncoded). Encoded control_third (delays_in delays) source.now target.old x.outcome x.state.delayed target.new)
+        (λ x. Tells (encoded_report x.outcome (delays_number x.state.delayed) answer.old) result answer.new) }
+{
+    caplattice::coding::caplattice_encode_rate1_3(delays, source, target, answer)
+}
+
+#[unsafe(no_mangle)]
+pub extern "C" fn caplattice_encode_speech(
+    delays: u32,
+    source: &[u8],
+    target: &mut [u8],
+    answer: &mut [u64; 6],
+) -> u8
+    ensures { Answers (λ (x : SpeechConvEncoded). Encoded speech (delays_in delays) source.now target.old x.outcome x.state.delayed target.new)
+        (λ x. Tells (encoded_report x.outcome (delays_number x.state.delayed) answer.old) result answer.new) }
+{
+    caplattice::coding::caplattice_encode_speech(delays, source, target, answer)
+}
+
+#[unsafe(no_mangle)]
+pub extern "C" fn caplattice_get_punctured_rate(
+    mode: u8,
+    source: &[u8],
+    n: usize,
+    target: &mut [u8],
+) -> u8
+    ensures { Answers (Leaves (puncture_refusal mode n (length source.now) (length target.old)) (written (punctured mode n source.now) target.old) target.old target.new)
+        (λ x. x ≡ outcome result) }
+{
+    caplattice::coding::caplattice_get_punctured_rate(mode, source, n, target)
+}
+
+#[unsafe(no_mangle)]
+pub extern "C" fn caplattice_tetra_rcpc_depunct(
+    mode: u8,
+    source: &[u8],
+    n: usize,
+    target: &mut [u8],
+) -> u8
+    ensures { Answers (Leaves (depuncture_refusal mode n (length source.now) (length target.old)) (depunctured mode n source.now target.old) target.old target.new)
+        (λ x. x ≡ outcome result) }
+{
+    caplattice::coding::caplattice_tetra_rcpc_depunct(mode, source, n, target)
+}
+
+#[unsafe(no_mangle)]
+pub extern "C" fn caplattice_mother_memcmp(
+    mother: &[u8],
+    depunct: &[u8],
+    answer: &mut [u64; 6],
+) -> u8
+    ensures { Answers (λ x. x ≡ compare mother.now depunct.now)
+        (λ x. Tells (compared_report x) result answer.new) }
+{
+    caplattice::coding::caplattice_mother_memcmp(mother, depunct, answer)
+}
+
+#[unsafe(no_mangle)]
+pub extern "C" fn caplattice_dec_sb1(
+    source: &[u8],
+    target: &mut [u8],
+    n: usize,
+    trellis: &mut [u16],
+    answer: &mut [u64; 6],
+) -> u8
+    ensures { Answers (Decodes control n source.now target.old target.new trellis.old trellis.new)
+        (λ x. Tells (valued_report (λ n. saying 0 0 n 0) x answer.old) result answer.new) }
+{
+    caplattice::coding::caplattice_dec_sb1(source, target, n, trellis, answer)
+}
+
+#[unsafe(no_mangle)]
+pub extern "C" fn caplattice_dec_speech(
+    source: &[u8],
+    target: &mut [u8],
+    n: usize,
+    trellis: &mut [u16],
+    answer: &mut [u64; 6],
+) -> u8
+    ensures { Answers (Decodes speech n source.now target.old target.new trellis.old trellis.new)
+        (λ x. Tells (valued_report (λ n. saying 0 0 n 0) x answer.old) result answer.new) }
+{
+    caplattice::coding::caplattice_dec_speech(source, target, n, trellis, answer)
+}
