@@ -1,0 +1,24 @@
+use mathlib.Core.Path.{ap, ◌∙◌}
+use mathlib.Core.List.{List}
+use Prim.Native.Nat.{ℕ}
+use native.Mathlib.Omega.{arith}
+use lib.ListN.{replicate}
+use Rattle.scrambler.specs.Scrambling.{scrambled}
+use Rattle.stages.proofs.Calls.{moved_is, moved_bits}
+use Rattle.stages.proofs.inner.put_on_air.Goals as goal
+
+-- The kept symbols stand in the work array, and go from there to the target.
+pub scramble-requires : goal.scramble-requires
+scramble-requires c =
+    let p = c.puncture in
+    let b = c.block_interleave in
+    moved_bits c.args.mode c.args.k c.args.a c.args.mother.now (replicate 432 0) p.new.coded c.args.air.now b.new.output
+    (omega (arith, c.requires)) c.requires.2 c.requires.3 c.requires.1 c.requires.6 p.ensures b.ensures.1 c.requires.5
+
+pub returns : goal.returns
+returns c =
+    let p = c.puncture in
+    let b = c.block_interleave in
+    c.scramble.ensures
+    ∙ ap (scrambled c.args.start) (moved_is c.args.mode c.args.k c.args.a c.args.mother.now (replicate 432 0) p.new.coded c.args.air.now b.new.output
+    (omega (arith, c.requires)) c.requires.2 c.requires.3 c.requires.1 c.requires.6 p.ensures b.ensures.1)
