@@ -12,7 +12,7 @@
  * are not used. SHORT and ROOM name the slice that has fewer entries than are asked for. Of several refusals that apply, the first
  * that is named below is given.
  *
- * Link libcaplattice.a, for x86-64 Linux: `rt staticlib caplattice` writes it to target/staticlib. It was compiled for any x86-64
+ * Link libcaplattice.a, for x86-64 Linux: rust/library of the repository makes it in target/staticlib. It was compiled for any x86-64
  * processor and calls nothing but memcpy and memset of the C library. A call takes less than five kilobytes of stack. */
 #ifndef CAPLATTICE_H
 #define CAPLATTICE_H
