@@ -1,4 +1,3 @@
-use Prim.Native.Nat.{◌-◌}
 use lib.IntN.{pos}
 use lib.ListN.{get_or}
 use Rattle.viterbi.proofs.Branches.{wide_is, minus_is, made_more}

@@ -1,4 +1,3 @@
-use Prim.Native.Nat.{◌-◌}
 use mathlib.Core.Path.{◌∙◌}
 use lib.IntN.{pos, ◌+ℤ◌}
 use lib.ListN.{get_or, length-set}

@@ -1,5 +1,4 @@
 -- One symbol more is counted if it is a bit.
-use mathlib.Core.Path.{◌≡◌}
 use native.Mathlib.Omega.{arith}
 use lib.ListN.{get_or}
 use Rattle.base.specs.Bits.{known}
@@ -13,6 +12,6 @@ loop-i-preserved c =
     let l = c.loop-i in
     let more = total_more known a.source.now l.i (omega arith) in
     elim c.if-source-i-lt2.branch [
-      then-source-i-lt2 w ↦ omega (arith, more, known_yes (get_or a.source.now l.i 0) w.if-source-i-lt2.true)
-    | else-source-i-lt2 w ↦ omega (arith, more, known_no (get_or a.source.now l.i 0) w.if-source-i-lt2.false)
+      | then-source-i-lt2 w ↦ omega (arith, more, known_yes (get_or a.source.now l.i 0) w.if-source-i-lt2.true)
+      | else-source-i-lt2 w ↦ omega (arith, more, known_no (get_or a.source.now l.i 0) w.if-source-i-lt2.false)
     ]
