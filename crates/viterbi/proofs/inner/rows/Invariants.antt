@@ -1,10 +1,7 @@
 -- Row 0 is the signs, row 1 the signs turned, and row 2 stays 0.
-use Prim.Native.Nat.{◌-◌, ◌≤◌}
+use Prim.Native.Nat.{◌≤◌}
 use Rattle.viterbi.proofs.Branches.{Made}
 use Rattle.viterbi.proofs.inner.rows.Given as goal
 
 abbrev pub invariant-loop-s : goal.invariant-loop-s
 invariant-loop-s l = (l.s ≤ 16) × Made l.e l.s l.r
-
-abbrev pub decreases-loop-s : goal.decreases-loop-s
-decreases-loop-s l = 16 - l.s

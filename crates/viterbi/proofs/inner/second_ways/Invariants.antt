@@ -1,5 +1,5 @@
 -- Entry s is the way into state s.
-use Prim.Native.Nat.{ℕ, ◌-◌, ◌≤◌, ◌<◌}
+use Prim.Native.Nat.{ℕ, ◌≤◌, ◌<◌}
 use mathlib.Core.Path.{◌≡◌}
 use lib.IntN.{pos}
 use lib.ListN.{length, get_or}
@@ -9,6 +9,3 @@ use Rattle.viterbi.proofs.inner.second_ways.Given as goal
 abbrev pub invariant-loop-s : goal.invariant-loop-s
 invariant-loop-s l =
     (l.s ≤ 16) × (length l.r ≡ 16) × ((j : ℕ) → j < l.s → get_or l.r j (pos 0) ≡ second_way l.m l.b j)
-
-abbrev pub decreases-loop-s : goal.decreases-loop-s
-decreases-loop-s l = 16 - l.s
