@@ -1,0 +1,8 @@
+-- The data goes over the front of the zeros, and the check after it.
+use Rattle.errorcontrol_cp.proofs.Parts.{word_made}
+use Rattle.errorcontrol_cp.proofs.write_word.Goals as goal
+
+pub returns : goal.returns
+returns c =
+    let a = c.args in
+    word_made a.count a.«data».now a.word.now c.copy.new.target c.requires.0 c.requires.2 c.copy.ensures c.write_check.new.target c.write_check.ensures
