@@ -16,7 +16,7 @@ use records::Item;
 
 // How many bytes were taken and written, how many whole records have been read since the input
 // began, and whether the reading has stopped.
-#[derive(Drop)]
+#[derive(Clone, Copy)]
 pub struct Stepped {
     pub taken: usize,
     pub written: usize,
