@@ -1,6 +1,6 @@
 -- One turn of a program that reads a recording, by the definition of the runner.
 -- Assumes nothing.
-use Rattle.std.specs.Prelude.{true, false, ◌≡◌, ◌⊎◌, List, [], ◌++◌, ℕ, ◌+◌, ◌≤◌, ◌<◌, eqb, length, take, drop}
+use Rattle.std.specs.Prelude.{true, false, ◌≡◌, ◌⊎◌, List, [], ◌++◌, ℕ, ◌≤◌, ◌<◌, eqb, length, take, drop}
 use Rattle.records.specs.Recording.{pick}
 use Rattle.streaming.specs.Runner.{State, holding, start, feed, lines_of}
 use Rattle.streaming.specs.Limits.{LARGEST, LONGEST}

@@ -12,7 +12,7 @@ ghost use Rattle.reading.specs.Turns.{meant, first, wrote};
 
 // Whether to go on, and why not: the input has ended behind a whole record, or inside one; a kind is
 // not known; the input could not be read; the lines could not be written; no number is left.
-#[derive(Drop)]
+#[derive(Clone, Copy)]
 pub enum Next {
     Goes,
     Whole,
@@ -24,7 +24,7 @@ pub enum Next {
 }
 
 // What one read brought. No bytes and no failure is the end of the input.
-#[derive(Drop)]
+#[derive(Clone, Copy)]
 pub struct Got {
     bytes: usize,
     failed: bool,
@@ -69,7 +69,7 @@ impl Got {
 
 // How many bytes are kept at the buffer's front and how many are to be written, how many whole
 // records have been read since the input began, and whether to go on.
-#[derive(Drop)]
+#[derive(Clone, Copy)]
 pub struct Turn {
     kept: usize,
     written: usize,
