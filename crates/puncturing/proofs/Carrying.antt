@@ -1,6 +1,6 @@
 -- Entries between their outputs and their mother places, both ways: the loops' one law, and what no refusal says.
 -- Assumes nothing.
-use mathlib.Core.Path.{◌≡◌, refl, sym, ap, subst, ◌∙◌}
+use mathlib.Core.Path.{◌≡◌, refl, ap, subst, ◌∙◌}
 use mathlib.Core.List.{List}
 use Prim.Native.Nat.{ℕ, ◌+◌, ◌≤◌, ◌<◌}
 use native.Mathlib.Omega.{arith}
@@ -78,8 +78,3 @@ module _ {way : Direction} {mode from n : ℕ} {src dst dst' : List ℕ} (c : Ca
   -- at the end
   pub carrying_at : {to : ℕ} → n ≡ to → Carries way mode from to src dst dst'
   carrying_at e = subst (λ (m : ℕ). Carries way mode from m src dst dst') e c.carries
-
--- the direction that a match found
-pub carries_by : (way kind : Direction) (mode from to : ℕ) (src dst : List ℕ) {dst' : List ℕ} → way ≡ kind → Carries kind mode from to src dst dst'
-    → Carries way mode from to src dst dst'
-carries_by way kind mode from to src dst {dst'} e = subst (λ (k : Direction). Carries k mode from to src dst dst') (sym e)

@@ -1,6 +1,6 @@
 use borrow.Author.Rules.{rules}
 use mathlib.Core.List.{[]}
-use Rattle.errorcontrol_tp.proofs.Chains.{first_needs, spare_needs, symbols_made}
+use Rattle.errorcontrol_tp.proofs.Chains.{first_needs, symbols_room, spare_needs, symbols_made}
 use native.Mathlib.Omega.{arith}
 use Rattle.errorcontrol_tp.proofs.mother_symbols.Goals as goal
 
@@ -19,3 +19,6 @@ pub returns : goal.returns
 returns c =
     symbols_made c.args.block c.depuncture.new.mother c.depuncture-2.new.mother (search rules)
     c.depuncture.ensures c.depuncture-2.ensures
+
+pub slice_bounds-mother-end-2 : goal.slice_bounds-mother-end-2
+slice_bounds-mother-end-2 c = omega (arith, symbols_room c.args.block c.depuncture.new.mother [] (search rules) c.depuncture.ensures)
