@@ -30,12 +30,16 @@ valued_number said zero value before e = e
 valued_number said (suc number) value before e = refl
 
 pub received_number : (number : ℕ) (good : Bool) (counts : Counts) (before : List ℕ) → (received_report (reception number good counts) before).0 ≡ number
-received_number zero good counts before = elim good [ true ↦ refl | false ↦ refl ]
+received_number zero true counts before = refl
+received_number zero false counts before = refl
 received_number (suc number) good counts before = refl
 
 pub judged_number : (number : ℕ) (v : Verdict) (before : List ℕ) → (judged_report (judged number v) before).0 ≡ number
-judged_number zero v before = elim v [ Clean bits ↦ refl | Mended place bits ↦ refl | Beyond bits ↦ refl ]
+judged_number zero (Clean bits) before = refl
+judged_number zero (Mended place bits) before = refl
+judged_number zero (Beyond bits) before = refl
 judged_number (suc number) v before = refl
 
 pub encoded_number : (number next : ℕ) (before : List ℕ) → (encoded_report (outcome number) next before).0 ≡ number
-encoded_number number next before = elim number [ zero ↦ refl | suc m ↦ refl ]
+encoded_number zero next before = refl
+encoded_number (suc number) next before = refl
