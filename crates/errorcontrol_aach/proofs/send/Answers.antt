@@ -1,7 +1,13 @@
 use mathlib.Core.Path.{ap, ◌∙◌}
+use native.Mathlib.Omega.{arith}
 use Rattle.rm3014.specs.Code.{code_word}
-use Rattle.errorcontrol_aach.proofs.Chains.{wrote_bits, sent_made}
+use Rattle.errorcontrol_aach.proofs.Chains.{wrote_length, wrote_bits, sent_made}
 use Rattle.errorcontrol_aach.proofs.send.Goals as goal
+
+pub slice_bounds-scramble-end : goal.slice_bounds-scramble-end
+slice_bounds-scramble-end c =
+    let ww = c.write_word in
+    omega (arith, wrote_length c.code_word-word.result c.args.air.now ww.new.air c.requires.1 ww.ensures)
 
 pub scramble-requires : goal.scramble-requires
 scramble-requires c =
