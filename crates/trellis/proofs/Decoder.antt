@@ -20,7 +20,7 @@ use Rattle.trellis.proofs.Words.{bits_reverse, after_state}
 use Rattle.trellis.proofs.Paths.{trace_length, trace_bits, trace_ends, trace_costs, least, first, state_lt}
 use Rattle.trellis.proofs.Encoding.{distance_take, distance_split, Each, encode_length, encode_append}
 use Rattle.trellis.proofs.Winners.{winner_nearest}
-use Rattle.trellis.proofs.Walk.{starts_at_zero, walk_traced, score_kept}
+use Rattle.trellis.proofs.SameWalk.{starts_at_zero, walk_traced, score_kept}
 
 pub steps_length : {A : Type 0} (m : A → ℕ → ℕ) (out : ℕ → List ℕ) (k : ℕ) (r : List A) (n : ℕ) → length (steps m out k r n) ≡ n
 steps_length m out k r zero = refl

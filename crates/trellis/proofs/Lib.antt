@@ -6,5 +6,6 @@ pub mod Winners
 pub mod Undamaged
 pub mod Paths
 pub mod Walk
+pub mod SameWalk
 pub mod Spread
 pub mod Decoder

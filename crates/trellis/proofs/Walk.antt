@@ -1,17 +1,17 @@
 -- The walk back from state 0 ends in state 0. A decoder that begins the other states with a score takes the same walk, if that score exceeds what
 -- four steps can cost: after four steps every state has been reached from state 0.
 -- Assumes nothing.
-use mathlib.Core.Path.{◌≡◌, refl, sym, ap, ◌∙◌}
+use mathlib.Core.Path.{◌≡◌, refl, sym}
 use mathlib.Core.List.{List, [], ◌∷◌}
 use mathlib.Core.Option.{Option, none, some, IsSome}
 use mathlib.Core.Bool.{Bool, true, false, cond}
-use Prim.Native.Nat.{ℕ, zero, suc, ◌+◌, ◌*◌, ◌/◌, ◌%◌, ◌≤◌, ◌<◌}
+use Prim.Native.Nat.{ℕ, zero, suc, ◌+◌, ◌*◌, ◌%◌, ◌≤◌, ◌<◌}
 use native.Mathlib.Omega.{arith}
 use lib.Dec.{ltb}
 use lib.ListN.{length}
 use borrow.Author.Tests.{le-ltb, lt-ltb}
-use Rattle.trellis.specs.Walk.{before, bits_back, ends_in, plus, second, best, score, way, best_way}
-use Rattle.trellis.specs.Trellis.{lesser, metric, choice, trace, begin, Bounded}
+use Rattle.trellis.specs.Walk.{before, ends_in, plus, second, best, score, way, best_way}
+use Rattle.trellis.specs.Trellis.{lesser, metric, Bounded}
 
 -- ---- the walk stays where there is a score
 -- if the better of two ways has a score, so has the state it comes from
@@ -29,11 +29,11 @@ state_before : (cs : List (ℕ → ℕ)) (s : ℕ) (t : Bool) → IsSome (cond t
 state_before cs s true h = h
 state_before cs s false h = h
 
-stays : (c : ℕ → ℕ) (cs : List (ℕ → ℕ)) (s : ℕ) → IsSome (score (c ∷ cs) s) → IsSome (score cs (before (best_way c cs s) s))
+pub stays : (c : ℕ → ℕ) (cs : List (ℕ → ℕ)) (s : ℕ) → IsSome (score (c ∷ cs) s) → IsSome (score cs (before (best_way c cs s) s))
 stays c cs s h =
     state_before cs s (second (way c cs s 0) (way c cs s 1)) (from_scored (score cs (before 0 s)) (score cs (before 1 s)) (c (2 * s + 0)) (c (2 * s + 1)) h)
 
-best_way_lt : (c : ℕ → ℕ) (cs : List (ℕ → ℕ)) (s : ℕ) → before (best_way c cs s) s < 16
+pub best_way_lt : (c : ℕ → ℕ) (cs : List (ℕ → ℕ)) (s : ℕ) → before (best_way c cs s) s < 16
 best_way_lt c cs s = go (second (way c cs s 0) (way c cs s 1))
   where
     go : (t : Bool) → before (cond t 1 0) s < 16
@@ -41,7 +41,7 @@ best_way_lt c cs s = go (second (way c cs s 0) (way c cs s 1))
     go false = omega arith
 
 -- one of two ways with a score is enough
-first_scored : (a b : Option ℕ) (c d : ℕ) → IsSome a → IsSome (best (plus a c) (plus b d))
+pub first_scored : (a b : Option ℕ) (c d : ℕ) → IsSome a → IsSome (best (plus a c) (plus b d))
 first_scored none b c d h = absurd h
 first_scored (some x) none c d h = tt
 first_scored (some x) (some y) c d h = go (ltb (y + d) (x + c))
@@ -51,7 +51,7 @@ first_scored (some x) (some y) c d h = go (ltb (y + d) (x + c))
     go false = tt
 
 -- the word of zeros leads to state 0
-zero_scored : (cs : List (ℕ → ℕ)) → IsSome (score cs 0)
+pub zero_scored : (cs : List (ℕ → ℕ)) → IsSome (score cs 0)
 zero_scored [] = tt
 zero_scored (c ∷ cs) = first_scored (score cs 0) (score cs 1) (c 0) (c 1) (zero_scored cs)
 
@@ -95,14 +95,14 @@ stray_on (suc (suc (suc (suc n)))) s h = absurd h
 
 module _ (most : ℕ) where
   -- a score y among scores for all states, beside the score of Walk.antt after n steps in state s
-  abbrev Beside : ℕ → ℕ → Option ℕ → ℕ → Type 0
+  abbrev pub Beside : ℕ → ℕ → Option ℕ → ℕ → Type 0
   Beside n s none y = Stray n s × (4 * most < y)
   Beside n s (some x) y = (x ≡ y) × (x ≤ up_to most n)
 
   -- two ways into a state, by branches of the costs c and d
   module _ (n p q : ℕ) (y z c d : ℕ) (hc : c ≤ most) (hd : d ≤ most) where
     -- where one of them has a score, the same one is taken
-    same_way : (a b : Option ℕ) → Beside n p a y → Beside n q b z → IsSome (best (plus a c) (plus b d)) → second (plus a c) (plus b d) ≡ ltb (z + d) (y + c)
+    pub same_way : (a b : Option ℕ) → Beside n p a y → Beside n q b z → IsSome (best (plus a c) (plus b d)) → second (plus a c) (plus b d) ≡ ltb (z + d) (y + c)
     same_way none none h k r = absurd r
     same_way none (some v) h k r = sym (lt-ltb (z + d) (y + c) (omega (arith, stray_few n p most h.0)))
     same_way (some x) none h k r = sym (le-ltb (z + d) (y + c) (omega (arith, stray_few n q most k.0)))
@@ -123,41 +123,10 @@ module _ (most : ℕ) where
         go false f = rw (← f) (omega arith, omega arith)
 
 module _ (start : ℕ → ℕ) (most : ℕ) (zeroth : start 0 ≡ 0) (others : (s : ℕ) → 0 < s → 4 * most < start s) where
-  beside : (cs : List (ℕ → ℕ)) (s : ℕ) → s < 16 → Bounded most cs → Beside most (length cs) s (score cs s) (metric start cs s)
+  pub beside : (cs : List (ℕ → ℕ)) (s : ℕ) → s < 16 → Bounded most cs → Beside most (length cs) s (score cs s) (metric start cs s)
   beside [] zero h k = (sym zeroth, omega arith)
   beside [] (suc s) h k = (omega arith, others (suc s) (omega arith))
   beside (c ∷ cs) s h k =
       beside_more most (length cs) (before 0 s) (before 1 s) (metric start cs (before 0 s)) (metric start cs (before 1 s)) (c (2 * s + 0)) (c (2 * s + 1))
       (k.0 (2 * s + 0) (omega arith)) (k.0 (2 * s + 1) (omega arith)) s refl (score cs (before 0 s)) (score cs (before 1 s))
       (beside cs (before 0 s) (omega arith) k.1) (beside cs (before 1 s) (omega arith) k.1)
-
-  same_choice : (c : ℕ → ℕ) (cs : List (ℕ → ℕ)) (s : ℕ) → s < 16 → Bounded most (c ∷ cs) → IsSome (score (c ∷ cs) s) → best_way c cs s ≡ choice start c cs s
-  same_choice c cs s h k r =
-      ap (λ (t : Bool). cond t 1 0)
-      (same_way most (length cs) (before 0 s) (before 1 s) (metric start cs (before 0 s)) (metric start cs (before 1 s)) (c (2 * s + 0)) (c (2 * s + 1))
-      (k.0 (2 * s + 0) (omega arith)) (k.0 (2 * s + 1) (omega arith)) (score cs (before 0 s)) (score cs (before 1 s))
-      (beside cs (before 0 s) (omega arith) k.1) (beside cs (before 1 s) (omega arith) k.1) r)
-
-  -- the same walk: its bits and its end
-  same_walk : (cs : List (ℕ → ℕ)) (s : ℕ) → s < 16 → Bounded most cs → IsSome (score cs s)
-      → (bits_back best_way cs s ≡ trace start cs s) × (ends_in best_way cs s ≡ begin start cs s)
-  same_walk [] s h k r = (refl, refl)
-  same_walk (c ∷ cs) s h k r =
-      let same = same_walk cs (before (best_way c cs s) s) (best_way_lt c cs s) k.1 (stays c cs s r) in
-      let way = same_choice c cs s h k r in (
-        ap (λ (l : List ℕ). s / 8 ∷ l) (same.0 ∙ ap (λ (x : ℕ). trace start cs (before x s)) way),
-        same.1 ∙ ap (λ (x : ℕ). begin start cs (before x s)) way,
-      )
-
-  pub starts_at_zero : (cs : List (ℕ → ℕ)) → Bounded most cs → begin start cs 0 ≡ 0
-  starts_at_zero cs k = sym (same_walk cs 0 (omega arith) k (zero_scored cs)).1 ∙ walk_ends cs
-
-  pub walk_traced : (cs : List (ℕ → ℕ)) → Bounded most cs → bits_back best_way cs 0 ≡ trace start cs 0
-  walk_traced cs k = (same_walk cs 0 (omega arith) k (zero_scored cs)).0
-
-  pub score_kept : (cs : List (ℕ → ℕ)) → Bounded most cs → score cs 0 ≡ some (metric start cs 0)
-  score_kept cs k = go (score cs 0) (zero_scored cs) (beside cs 0 (omega arith) k)
-    where
-      go : (a : Option ℕ) → IsSome a → Beside most (length cs) 0 a (metric start cs 0) → a ≡ some (metric start cs 0)
-      go none r b = absurd r
-      go (some x) r b = ap some b.0

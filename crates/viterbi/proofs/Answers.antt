@@ -16,7 +16,7 @@ use Rattle.base.proofs.Lists.{tabulate_length}
 use Rattle.trellis.specs.Nearest.{encode, distance, total, Candidate}
 use Rattle.trellis.specs.Walk.{before, branch}
 use Rattle.trellis.specs.Trellis.{metric, choice, trace, begin, decode}
-use Rattle.trellis.proofs.Walk.{starts_at_zero}
+use Rattle.trellis.proofs.SameWalk.{starts_at_zero}
 use Rattle.trellis.proofs.Encoding.{encode_same}
 use Rattle.trellis.proofs.Winners.{nearest_same, nearest_wins}
 use Rattle.trellis.proofs.Decoder.{decode_nearest, decode_distance}
