@@ -47,6 +47,13 @@ known_no zero h = absurd (omega arith)
 known_no (suc zero) h = absurd (omega arith)
 known_no (suc (suc r)) h = refl
 
+-- one symbol more, a bit or an erasure
+pub known_more : (r : List ℕ) (n : ℕ) → n < length r → get_or r n 0 < 2 → total known (take (n + 1) r) ≡ total known (take n r) + 1
+known_more r n h b = omega (arith, total_more known r n h, known_yes (get_or r n 0) b)
+
+pub erased_more : (r : List ℕ) (n : ℕ) → n < length r → 2 ≤ get_or r n 0 → total known (take (n + 1) r) ≡ total known (take n r)
+erased_more r n h b = omega (arith, total_more known r n h, known_no (get_or r n 0) b)
+
 pub each_known : (r : List ℕ) → Each (λ a. (b : ℕ) → b < 2 → disagrees a b ≤ known a) r
 each_known [] = tt
 each_known (a ∷ r) = (disagrees_le a, each_known r)
