@@ -1,50 +1,73 @@
 // How the program ended, for whoever started it: a program here has no exit status. Its one argument,
 // if it has one, names a file, and the last thing that it does is to write a word to that file.
-use libc::STDERR_FILENO;
+use crate::failure::fail;
 use reading::Next;
+use std::env::FillError;
+use std::fs::File;
+use std::io;
+use std::io::{ErrorKind, Write};
+use std::rt::Env;
 
-// One more than one argument: the program's own name is counted.
-const ONE: usize = 2;
+// The longest name that a file can have, with the end that C puts behind it.
+const NAME: usize = 4096;
 
-fn put_word(fd: i32, next: Next) -> bool {
+// Nothing is said of a turn that goes on: that is no end.
+fn word_of(next: Next) -> io::Result<&'static [u8]> {
     match next {
-        Next::Goes => false,
-        Next::Whole => io::write_all(fd, b"whole\n"),
-        Next::Cut => io::write_all(fd, b"cut\n"),
-        Next::Unknown => io::write_all(fd, b"unknown\n"),
-        Next::Unread => io::write_all(fd, b"unread\n"),
-        Next::Unwritten => io::write_all(fd, b"unwritten\n"),
-        Next::Full => io::write_all(fd, b"full\n"),
+        Next::Goes => Err(io::Error::from(ErrorKind::Other)),
+        Next::Whole => Ok(b"whole\n"),
+        Next::Cut => Ok(b"cut\n"),
+        Next::Unknown => Ok(b"unknown\n"),
+        Next::Unread => Ok(b"unread\n"),
+        Next::Unwritten => Ok(b"unwritten\n"),
+        Next::Full => Ok(b"full\n"),
     }
 }
 
-// Writes the word to the file of that name, and answers whether it did.
-fn put_file(name: &[u8], next: Next) -> bool {
-    let fd = os::open_overwrite(name);
-    if fd < 0 {
-        return false;
-    }
-    let done = put_word(fd, next);
-    libc::close(fd);
-    done
-}
-
-fn tell_file(next: Next) {
-    let mut space = io::buffer();
-    let n = os::arg(1, &mut space);
-    if os::errno() != 0 || !put_file(&space[..n], next) {
-        os::fail(b"runner: the ending cannot be written");
+// Writes the word to the file of that name.
+fn put_file(rt: &HostRuntime, name: &[u8], next: Next) -> io::Result<()> {
+    match std::str::from_utf8(name) {
+        Ok(path) => {
+            let mut file = File::create(rt, path)?;
+            file.write_all(word_of(next)?)
+        }
+        Err(_) => Err(io::Error::from(ErrorKind::InvalidFilename)),
     }
 }
 
-pub fn tell(next: Next) {
+fn tell_file(rt: &HostRuntime, next: Next) -> io::Result<()> {
+    let mut space = [0u8; NAME];
+    match rt.arg(1, &mut space) {
+        Ok(n) => put_file(rt, &space[..n], next),
+        Err(_) => Err(io::Error::from(ErrorKind::InvalidFilename)),
+    }
+}
+
+// Whether there is an argument, and not another one behind it.
+fn is_named(rt: &HostRuntime) -> bool {
+    has_arg(rt, 1) && !has_arg(rt, 2)
+}
+
+fn has_arg(rt: &HostRuntime, i: usize) -> bool {
+    let mut space = [0u8; NAME];
+    match rt.arg(i, &mut space) {
+        Ok(_) => true,
+        Err(FillError::TooLong) => true,
+        Err(FillError::NotPresent) => false,
+    }
+}
+
+pub fn tell(rt: &HostRuntime, next: Next) {
     match next {
         Next::Full => {
-            io::write_all(STDERR_FILENO, b"runner: too many records\n");
+            let _ = eprintln!(rt; "runner: too many records");
         }
         Next::Goes | Next::Whole | Next::Cut | Next::Unknown | Next::Unread | Next::Unwritten => (),
     }
-    if os::arg_count() == ONE {
-        tell_file(next);
+    if is_named(rt) {
+        match tell_file(rt, next) {
+            Ok(()) => (),
+            Err(e) => fail(rt, "runner: the ending cannot be written", &e),
+        }
     }
 }

@@ -4,6 +4,7 @@
 #![tactic(auto)]
 
 mod ending;
+mod failure;
 mod terminal;
 mod transfer;
 
@@ -13,19 +14,33 @@ ghost use Rattle.runner.specs.private.Transfers.{Writes};
 
 use reading::inner::take_in;
 use reading::{Got, Turn};
+use std::io::{Read, Write};
 use terminal::Meter;
 
 // What a read brought is taken in, and the turn's lines are written.
-fn turn(buf: &mut [u8], held: Turn, got: Got, out: &mut [u8]) -> Turn
+fn turn<W: Write>(
+    rt: &HostRuntime,
+    output: &mut W,
+    buf: &mut [u8],
+    held: Turn,
+    got: Got,
+    out: &mut [u8],
+) -> Turn
     requires { Fits held got buf.old out.old }
     ensures { Writes held got buf.old result buf.new out.new }
 {
     let next = take_in(buf, held, got, out);
     let n = next.written();
-    next.wrote(transfer::write_out(&out[..n]))
+    next.wrote(transfer::write_out(rt, output, &out[..n]))
 }
 
-fn run(buf: &mut [u8], out: &mut [u8]) -> Turn
+fn run<R: Read, W: Write>(
+    rt: &HostRuntime,
+    input: &mut R,
+    output: &mut W,
+    buf: &mut [u8],
+    out: &mut [u8],
+) -> Turn
     requires { Room buf.old out.old }
     ensures { Ended result buf.new }
 {
@@ -35,16 +50,18 @@ fn run(buf: &mut [u8], out: &mut [u8]) -> Turn
         megabytes: 0,
     };
     while held.goes() {
-        let got = transfer::read_some(buf, held);
-        held = turn(buf, held, got, out);
-        meter = terminal::metered(meter, got, held);
+        let got = transfer::read_some(rt, input, buf, held);
+        held = turn(rt, output, buf, held, got, out);
+        meter = terminal::metered(rt, meter, got, held);
     }
     held
 }
 
-fn main() {
+fn main(rt: HostRuntime) {
     let mut buf = [0u8; 65536];
     let mut out = [0u8; 196848];
-    let last = run(&mut buf, &mut out);
-    ending::tell(last.next());
+    let mut input = rt.stdin();
+    let mut output = rt.stdout();
+    let last = run(&rt, &mut input, &mut output, &mut buf, &mut out);
+    ending::tell(&rt, last.next());
 }

@@ -1,65 +1,75 @@
-// Reading standard input and writing standard output. A call that a signal interrupts is made again.
-ghost use Rattle.std.specs.Prelude.{◌≡◌, ◌+◌, ◌<◌, ◌≤◌, length};
+// Reading the input and writing the output. A call that a signal interrupts is made again.
+ghost use Rattle.std.specs.Prelude.{true, ◌≡◌, ◌+◌, ◌<◌, ◌≤◌, length};
 ghost use Rattle.runner.specs.private.Transfers.{Reads};
 
-use libc::{STDIN_FILENO, STDOUT_FILENO};
+use crate::failure::fail;
 use reading::{Got, Turn};
+use std::io::{Error, ErrorKind, Read, Write};
 
-// What was got, after a word on standard error where the read failed.
-fn told(got: Got) -> Got
-    ensures { result ≡ got }
+// A read that failed, after a word on standard error.
+fn unread(rt: &HostRuntime, reason: &Error) -> Got
+    ensures { result ≡ record { bytes = 0; failed = true } }
 {
-    if got.failed() {
-        os::fail(b"runner: standard input cannot be read");
-    }
-    got
+    fail(rt, "runner: standard input cannot be read", reason);
+    Got::answered(-1, 0)
 }
 
 // One read into buf, behind what is kept there.
-pub fn read_some(buf: &mut [u8], held: Turn) -> Got
+pub fn read_some<R: Read>(rt: &HostRuntime, input: &mut R, buf: &mut [u8], held: Turn) -> Got
     requires { held.kept < length buf.old }
     ensures { Reads held result buf.old buf.new }
 {
     let fill = held.kept();
-    let mut tries = u64::MAX;
-    while tries > 0 {
-        let answer = libc::read(STDIN_FILENO, &mut buf[fill..]);
-        let got = Got::answered(answer, buf.len() - fill);
-        if !got.failed() || os::errno() != libc::EINTR {
-            return told(got);
+    for _ in 0..u64::MAX {
+        match input.read(&mut buf[fill..]) {
+            Ok(n) => return Got::answered(n as isize, buf.len() - fill),
+            Err(e) => {
+                if e.kind() != ErrorKind::Interrupted {
+                    return unread(rt, &e);
+                }
+            }
         }
-        tries -= 1;
     }
-    told(Got::answered(-1, 0))
+    unread(rt, &Error::from(ErrorKind::Interrupted))
 }
 
-// One write of text from `from` on: how many bytes were taken, and 0 for a failure.
-fn write_some(text: &[u8], from: usize) -> usize
+fn unwritten(rt: &HostRuntime, reason: &Error) {
+    fail(rt, "runner: standard output cannot be written", reason);
+}
+
+// One write of text from `from` on: how many bytes were taken, and 0 for a failure, after a word on
+// standard error.
+fn write_some<W: Write>(rt: &HostRuntime, output: &mut W, text: &[u8], from: usize) -> usize
     requires { from ≤ length text.now }
     ensures { from + result ≤ length text.now }
 {
-    let mut tries = u64::MAX;
-    while tries > 0 {
-        let put = libc::write(STDOUT_FILENO, &text[from..]);
-        if put >= 0 {
-            return io::count(put, &text[from..]);
+    for _ in 0..u64::MAX {
+        match output.write(&text[from..]) {
+            Ok(n) => {
+                if n == 0 {
+                    unwritten(rt, &Error::from(ErrorKind::WriteZero));
+                }
+                return n;
+            }
+            Err(e) => {
+                if e.kind() != ErrorKind::Interrupted {
+                    unwritten(rt, &e);
+                    return 0;
+                }
+            }
         }
-        if os::errno() != libc::EINTR {
-            return 0;
-        }
-        tries -= 1;
     }
+    unwritten(rt, &Error::from(ErrorKind::Interrupted));
     0
 }
 
 // Writes all of text, in as many calls as it takes, and answers whether it did. A failure is said
 // on standard error.
-pub fn write_out(text: &[u8]) -> bool {
+pub fn write_out<W: Write>(rt: &HostRuntime, output: &mut W, text: &[u8]) -> bool {
     let mut from: usize = 0;
     while from < text.len() {
-        let put = write_some(text, from);
+        let put = write_some(rt, output, text, from);
         if put == 0 {
-            os::fail(b"runner: standard output cannot be written");
             return false;
         }
         from += put;
