@@ -16,7 +16,7 @@ pub fn filled(seed: u8, lent: &[u8], n: usize) -> [u8; 65536]
     requires { n ≤ 65536 }
     ensures { length result ≡ 65536 }
 {
-    let mut target = io::large_buffer();
+    let mut target = [0u8; 65536];
     for i in 0..n {
         target[i] = first_of(lent, i, filler(seed, i));
     }

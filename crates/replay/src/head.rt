@@ -2,7 +2,7 @@
 ghost use Rattle.std.specs.Prelude.{◌≤◌};
 
 // Which entry is asked, and the three numbers of the request, each in the widths of the parameters that it can be.
-#[derive(Drop)]
+#[derive(Clone, Copy)]
 pub struct Numbers {
     pub entry: u8,
     pub kind: u8,
@@ -16,7 +16,7 @@ pub struct Numbers {
 }
 
 // How long the slices are, what fills the target, and the answer.
-#[derive(Drop)]
+#[derive(Clone, Copy)]
 pub struct Head {
     pub source: usize,
     pub target: usize,

@@ -5,6 +5,8 @@
 
 ghost use Rattle.std.specs.Prelude.{◌≡◌, ◌<◌, ◌≤◌, length};
 
+use std::io::{Print, Read};
+
 mod asked;
 mod before;
 mod head;
@@ -15,7 +17,7 @@ mod shape;
 use head::{Head, Numbers};
 
 // What became of a request, and how many bytes its record has.
-#[derive(Drop)]
+#[derive(Clone, Copy)]
 struct Turn {
     entry: u8,
     equal: bool,
@@ -79,23 +81,23 @@ fn record(rest: &[u8]) -> Turn
 }
 
 // One more for a record that came out equal; one that did not is named.
-fn told(r: Turn, at: usize, equal: u64) -> u64 {
+fn told<P: Print>(out: &P, r: Turn, at: usize, equal: u64) -> u64 {
     if r.equal {
-        return std::num::wrapping_add_u64(equal, 1);
+        return equal.wrapping_add(1);
     }
-    say::differs(r.entry, at);
+    say::differs(out, r.entry, at);
     equal
 }
 
-fn all(list: &[u8]) {
+fn all<P: Print>(out: &P, list: &[u8]) {
     let mut equal: u64 = 0;
     let mut at: usize = 0;
     while at < list.len() {
         let r = record(&list[at..]);
-        equal = told(r, at, equal);
+        equal = told(out, r, at, equal);
         at += r.length;
     }
-    say::equal(equal);
+    say::equal(out, equal);
 }
 
 fn list_room() -> [u8; 393216]
@@ -104,8 +106,22 @@ fn list_room() -> [u8; 393216]
     [0u8; 393216]
 }
 
-fn main() {
+// Reads until the list is full, the input ends or a read fails, and returns how many bytes it put at the list's front.
+fn read_full<R: Read>(input: &mut R, list: &mut [u8]) -> usize
+    ensures { result ≤ length list.new }
+{
+    let mut done = 0;
+    while done < list.len() {
+        match input.read(&mut list[done..]) {
+            Ok(n) if n > 0 => done += n,
+            _ => return done,
+        }
+    }
+    done
+}
+
+fn main(rt: HostRuntime) {
     let mut list = list_room();
-    let n = io::read_full(0, &mut list);
-    all(&list[..n]);
+    let n = read_full(&mut rt.stdin(), &mut list);
+    all(&rt, &list[..n]);
 }

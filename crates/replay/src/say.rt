@@ -1,23 +1,10 @@
-// The lines that the program writes.
-use libc::STDOUT_FILENO;
+// The lines that the program writes. One that cannot be written is let go.
+use std::io::Print;
 
-fn put(text: &[u8]) {
-    io::write_all(STDOUT_FILENO, text);
+pub fn equal<P: Print>(out: &P, n: u64) {
+    let _ = println!(out; "{n} equal");
 }
 
-fn number(n: u64) {
-    io::print_decimal(STDOUT_FILENO, n);
-}
-
-pub fn equal(n: u64) {
-    number(n);
-    put(b" equal\n");
-}
-
-pub fn differs(entry: u8, at: usize) {
-    put(b"DIFFERS: entry ");
-    number(entry as u64);
-    put(b", the record at byte ");
-    number(at as u64);
-    put(b"\n");
+pub fn differs<P: Print>(out: &P, entry: u8, at: usize) {
+    let _ = println!(out; "DIFFERS: entry {entry}, the record at byte {at}");
 }
