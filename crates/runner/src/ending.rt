@@ -1,5 +1,5 @@
-// How the program ended, for whoever started it: a program here has no exit status. Its one argument,
-// if it has one, names a file, and the last thing that it does is to write a word to that file.
+// How the program ended, for whoever started it. Its exit status is always 0. Its one argument, if it
+// has one, names a file, and the last thing that it does is to write a word to that file.
 use crate::failure::fail;
 use reading::Next;
 use std::env::FillError;
@@ -10,6 +10,11 @@ use std::rt::Env;
 
 // The longest name that a file can have, with the end that C puts behind it.
 const NAME: usize = 4096;
+
+// The system's numbers for a name that is too long, and for one that is no text, which std cannot open.
+const TOO_LONG: i32 = 36;
+
+const NO_TEXT: i32 = 84;
 
 // Nothing is said of a turn that goes on: that is no end.
 fn word_of(next: Next) -> io::Result<&'static [u8]> {
@@ -31,7 +36,7 @@ fn put_file(rt: &HostRuntime, name: &[u8], next: Next) -> io::Result<()> {
             let mut file = File::create(rt, path)?;
             file.write_all(word_of(next)?)
         }
-        Err(_) => Err(io::Error::from(ErrorKind::InvalidFilename)),
+        Err(_) => Err(io::Error::from_raw_os_error(NO_TEXT)),
     }
 }
 
@@ -39,7 +44,7 @@ fn tell_file(rt: &HostRuntime, next: Next) -> io::Result<()> {
     let mut space = [0u8; NAME];
     match rt.arg(1, &mut space) {
         Ok(n) => put_file(rt, &space[..n], next),
-        Err(_) => Err(io::Error::from(ErrorKind::InvalidFilename)),
+        Err(_) => Err(io::Error::from_raw_os_error(TOO_LONG)),
     }
 }
 

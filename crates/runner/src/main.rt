@@ -9,7 +9,7 @@ mod terminal;
 mod transfer;
 
 ghost use Rattle.reading.specs.Asking.{Room, Fits};
-ghost use Rattle.runner.specs.Loop.{Ended};
+ghost use Rattle.runner.specs.Loop.{Ended, Tells};
 ghost use Rattle.runner.specs.private.Transfers.{Writes};
 
 use reading::inner::take_in;
@@ -27,7 +27,7 @@ fn turn<W: Write>(
     out: &mut [u8],
 ) -> Turn
     requires { Fits held got buf.old out.old }
-    ensures { Writes held got buf.old result buf.new out.new }
+    ensures { Writes (W.contents output.old) (W.contents output.new) held got buf.old result buf.new out.new }
 {
     let next = take_in(buf, held, got, out);
     let n = next.written();
@@ -42,7 +42,10 @@ fn run<R: Read, W: Write>(
     out: &mut [u8],
 ) -> Turn
     requires { Room buf.old out.old }
-    ensures { Ended result buf.new }
+    ensures ended { Ended (R.remaining input.old) (R.remaining input.new) (W.contents output.old)
+        (W.contents output.new) result buf.new }
+    ensures told { Tells (R.remaining input.old) (R.remaining input.new) (W.contents output.old)
+        (W.contents output.new) result }
 {
     let mut held = Turn::first();
     let mut meter = Meter {

@@ -1,6 +1,7 @@
 // Reading the input and writing the output. A call that a signal interrupts is made again.
-ghost use Rattle.std.specs.Prelude.{true, ◌≡◌, ◌+◌, ◌<◌, ◌≤◌, length};
-ghost use Rattle.runner.specs.private.Transfers.{Reads};
+ghost use Rattle.std.specs.Prelude.{true, ◌≡◌, ◌+◌, ◌<◌, ◌≤◌, length, take, drop};
+ghost use Rattle.std.specs.Io.KnownBytes.{Appends};
+ghost use Rattle.runner.specs.private.Transfers.{Reads, Lands};
 
 use crate::failure::fail;
 use reading::{Got, Turn};
@@ -17,7 +18,7 @@ fn unread(rt: &HostRuntime, reason: &Error) -> Got
 // One read into buf, behind what is kept there.
 pub fn read_some<R: Read>(rt: &HostRuntime, input: &mut R, buf: &mut [u8], held: Turn) -> Got
     requires { held.kept < length buf.old }
-    ensures { Reads held result buf.old buf.new }
+    ensures { Reads (R.remaining input.old) (R.remaining input.new) held result buf.old buf.new }
 {
     let fill = held.kept();
     for _ in 0..u64::MAX {
@@ -41,7 +42,8 @@ fn unwritten(rt: &HostRuntime, reason: &Error) {
 // standard error.
 fn write_some<W: Write>(rt: &HostRuntime, output: &mut W, text: &[u8], from: usize) -> usize
     requires { from ≤ length text.now }
-    ensures { from + result ≤ length text.now }
+    ensures within { from + result ≤ length text.now }
+    ensures went { Appends (W.contents output.old) (W.contents output.new) (take result (drop from text.now)) }
 {
     for _ in 0..u64::MAX {
         match output.write(&text[from..]) {
@@ -65,7 +67,9 @@ fn write_some<W: Write>(rt: &HostRuntime, output: &mut W, text: &[u8], from: usi
 
 // Writes all of text, in as many calls as it takes, and answers whether it did. A failure is said
 // on standard error.
-pub fn write_out<W: Write>(rt: &HostRuntime, output: &mut W, text: &[u8]) -> bool {
+pub fn write_out<W: Write>(rt: &HostRuntime, output: &mut W, text: &[u8]) -> bool
+    ensures { Lands (W.contents output.old) (W.contents output.new) text.now result }
+{
     let mut from: usize = 0;
     while from < text.len() {
         let put = write_some(rt, output, text, from);
