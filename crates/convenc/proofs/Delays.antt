@@ -1,12 +1,12 @@
 -- Laws of the four delays: one bit more, two inputs in a row, and the number that they say.
 -- Assumes nothing.
 use mathlib.Core.Path.{◌≡◌, refl, sym, ap, subst, ◌∙◌}
-use mathlib.Core.List.{List, [], ◌∷◌, ◌++◌, append_assoc, map, reverse, reverse-append}
+use mathlib.Core.List.{List, [], ◌∷◌, ◌++◌, append_assoc, reverse, reverse-append}
 use mathlib.Core.Bool.{Bool, true, false}
 use Prim.Native.Nat.{ℕ, zero, suc, ◌+◌, ◌-◌, ◌*◌, ◌/◌, ◌≤◌, ◌<◌}
 use native.Mathlib.Numerals.{add-one}
 use native.Mathlib.Omega.{arith}
-use lib.ListN.{length, take, get_or, length-map}
+use lib.ListN.{length, take, get_or}
 use lib.Dec.{ltb}
 use lib.Seq.{take_all, take-take, take-suc, take-length}
 use borrow.Author.Tests.{ltb-true, ltb-false}
@@ -24,10 +24,6 @@ pub record Four (d : List ℕ) : Type 0 where
 
 pub four_bits : (d : List ℕ) → length d ≡ 4 → bits_only 4 d ≡ true → Four d
 four_bits d h t = record { len = h; bits = subst Bits (take_all 4 d (omega arith)) (bits_only_bits 4 d t) }
-
--- the length of a field that is an array, from what owning the struct tells
-pub field_length : (d : List ℕ) → length (map (λ (v : ℕ). v) d) ≡ 4 → length d ≡ 4
-field_length d h = sym (length-map d (λ (v : ℕ). v)) ∙ h
 
 pub delays_none : (d : List ℕ) → length d ≡ 4 → delays d [] ≡ d
 delays_none d h = take_all 4 d (omega arith)

@@ -79,11 +79,11 @@ module _ (p q : ℤ) (fp : SFits w16 p) (fq : SFits w16 q) where
   test : (t : Bool) → lt_z (to_z w16 (of_z w16 q)) (to_z w16 (of_z w16 p)) ≡ t → lt_z q p ≡ t
   test t e = sym (ap₂ lt_z rq rp) ∙ e
 
-  pub takes_second : (z : ℕ) → z ≡ of_z w16 q → lt_z (to_z w16 (of_z w16 q)) (to_z w16 (of_z w16 p)) ≡ true → to_z w16 z ≡ better p q
-  takes_second z e t = ap (to_z w16) e ∙ rq ∙ sym (ap (λ (b : Bool). cond b q p) (test true t))
+  pub takes_second : (z : ℤ) → z ≡ to_z w16 (of_z w16 q) → lt_z (to_z w16 (of_z w16 q)) (to_z w16 (of_z w16 p)) ≡ true → z ≡ better p q
+  takes_second z e t = e ∙ rq ∙ sym (ap (λ (b : Bool). cond b q p) (test true t))
 
-  pub takes_first : (z : ℕ) → z ≡ of_z w16 p → lt_z (to_z w16 (of_z w16 q)) (to_z w16 (of_z w16 p)) ≡ false → to_z w16 z ≡ better p q
-  takes_first z e t = ap (to_z w16) e ∙ rp ∙ sym (ap (λ (b : Bool). cond b q p) (test false t))
+  pub takes_first : (z : ℤ) → z ≡ to_z w16 (of_z w16 p) → lt_z (to_z w16 (of_z w16 q)) (to_z w16 (of_z w16 p)) ≡ false → z ≡ better p q
+  takes_first z e t = e ∙ rp ∙ sym (ap (λ (b : Bool). cond b q p) (test false t))
 
   pub marks_second : lt_z (to_z w16 (of_z w16 q)) (to_z w16 (of_z w16 p)) ≡ true → 1 ≡ oldest p q
   marks_second t = sym (ap (λ (b : Bool). cond {A = ℕ} b 1 0) (test true t))

@@ -3,12 +3,27 @@ use mathlib.Core.Path.{◌≡◌, refl, sym, ap, ◌∙◌, subst}
 use native.Mathlib.Nat.{mul-zero}
 use native.Mathlib.Omega.{arith}
 use lib.Signed.{mag}
-use lib.ListN.{length, length-set}
+use lib.ListN.{length, length-set, get_or}
 use Rattle.viterbi.specs.private.Scores.{Forward}
-use Rattle.viterbi.proofs.Branches.{branch_small}
+use Rattle.viterbi.proofs.Branches.{branch_small, table_trit, rows_trit}
 use Rattle.viterbi.proofs.Pass.{step_room, step_place, scores_small, passed_none, passed_more}
 use Rattle.viterbi.proofs.Answers.{own_walk_ends}
+use mathlib.Core.List.{[]}
 use Rattle.viterbi.proofs.inner.forward.Goals as goal
+
+pub branches-requires : goal.branches-requires
+branches-requires c =
+    let a = c.args in
+    let t = c.requires.0 in
+    let l = c.loop-i in (
+      rows_trit (get_or a.expected 0 []) c.rows-a.result (table_trit a.k a.expected t 0 (omega arith)) c.rows-a.ensures,
+      rows_trit (get_or a.expected 1 []) c.rows-b.result (table_trit a.k a.expected t 1 (omega arith)) c.rows-b.ensures,
+      rows_trit (get_or a.expected 2 []) c.rows-c.result (table_trit a.k a.expected t 2 (omega arith)) c.rows-c.ensures,
+      rows_trit (get_or a.expected 3 []) c.rows-d.result (table_trit a.k a.expected t 3 (omega arith)) c.rows-d.ensures,
+      c.symbol_classes-classes.ensures,
+      t.least,
+      omega (arith, step_room a.k l.i a.n (length a.source.now) (omega arith) c.requires.2),
+    )
 
 pub loop-i-init : goal.loop-i-init
 loop-i-init c =

@@ -1,0 +1,24 @@
+-- The refusal's number decides; without one the first bits go by the held delays, and the rest by the input.
+use borrow.Author.Rules.{rules}
+use native.Mathlib.Omega.{arith}
+use Rattle.convenc.specs.Generators.{control_third}
+use Rattle.convenc.proofs.Refusing.{encoded_refused}
+use Rattle.convenc.proofs.Running.{entry_room, entry_done}
+use Rattle.convenc.proofs.ConvEncState.encode_rate1_3.Goals as goal
+
+pub returns-then-refusal-ne0 : goal.returns-then-refusal-ne0
+returns-then-refusal-ne0 c =
+    let a = c.args in
+    let r = c.encode_refusal-refusal in
+    encoded_refused control_third a.self.delayed a.input.now a.output.now r.result r.ensures c.if-refusal-ne0.true
+
+pub control_third_on-requires : goal.control_third_on-requires
+control_third_on-requires c =
+    let a = c.args in
+    omega (arith, entry_room control_third a.self.delayed a.input.now a.output.now c.encode_refusal-refusal.ensures c.if-refusal-ne0.false)
+
+pub returns : goal.returns
+returns c =
+    let a = c.args in
+    entry_done control_third a.self.delayed a.input.now a.output.now c.encode_refusal-refusal.ensures c.if-refusal-ne0.false
+    (search rules) c.encode_first-after.ensures c.control_third_on.ensures
