@@ -4,7 +4,7 @@ use native.Mathlib.Nat.{zero-mul}
 use native.Mathlib.Omega.{arith}
 use lib.ListN.{length-set}
 use Rattle.base.proofs.Moves.{scatter_none}
-use Rattle.interleaver.proofs.Matrix.{line_turn, at_more}
+use Rattle.interleaver.proofs.Matrix.{line_turn, at_more, target_below}
 use Rattle.interleaver.proofs.move_line.Goals as goal
 
 pub loop-i-init : goal.loop-i-init
@@ -19,3 +19,8 @@ loop-i-preserved c =
       at_more a.lines a.line l.i l.at l.invariant.2,
       line_turn a.lines a.line l.i l.at a.input.now a.output.now l.output (a.line * a.columns) l.invariant.2 l.invariant.3,
     )
+
+pub bounds-output-at : goal.bounds-output-at
+bounds-output-at c =
+    let a = c.args in
+    omega (arith, target_below a.lines a.columns a.line c.requires.0 c.loop-i.i (omega arith), c.requires.1.room)

@@ -4,7 +4,7 @@ use native.Mathlib.Nat.{zero-mul}
 use native.Mathlib.Omega.{arith}
 use lib.ListN.{length-set}
 use Rattle.base.proofs.Moves.{scatter_none}
-use Rattle.interleaver.proofs.Matrix.{pair_turn, at_more}
+use Rattle.interleaver.proofs.Matrix.{pair_turn, at_more, next_ends}
 use Rattle.interleaver.proofs.move_pair.Goals as goal
 
 pub loop-i-init : goal.loop-i-init
@@ -21,3 +21,8 @@ loop-i-preserved c =
       pair_turn a.lines a.line l.i l.at a.input.now a.output.now l.output first (first + a.columns)
           c.requires.0 l.invariant.2 l.invariant.3,
     )
+
+pub bounds-input-first : goal.bounds-input-first
+bounds-input-first c =
+    let a = c.args in
+    omega (arith, next_ends a.lines a.columns a.line c.requires.0, c.requires.1.long)

@@ -4,7 +4,7 @@ use mathlib.Core.Path.{◌≡◌, ap, ◌∙◌}
 use native.Mathlib.Omega.{arith}
 use lib.ListN.{length, get_or, set}
 use Rattle.base.specs.Places.{tabulate, written}
-use Rattle.base.proofs.Lists.{write_none, write_more, write_length, copied}
+use Rattle.base.proofs.Lists.{write_none, write_more, copied}
 use Rattle.base.proofs.inner.copy.Goals as goal
 
 pub loop-i-init : goal.loop-i-init
