@@ -1,13 +1,14 @@
-/* The runner on any bytes at all. Its proved module is compiled with instrumentation; its `main`, `read`, `write`, `close` and `isatty` have
- * other names there (fuzz/run), so that it runs in this process on a recording that comes in pieces of any size, with interrupted calls
+/* The runner on any bytes at all. Its proved module is compiled with instrumentation; its `main`, `read`, `write`, `open`, `close` and
+ * `isatty` have other names there (fuzz/run), so that it runs in this process on a recording that comes in pieces of any size, with interrupted calls
  * and with failures. What it writes is held to the lines that document 01 says, worked out here from the shipped library, and the word
  * on how it ended to what happened. */
 #include "../include/caplattice.h"
 #include "harness.h"
 
 #include <errno.h>
+#include <fcntl.h>
 
-void runner_main(void);
+int runner_main(void);
 
 enum { BUFFER = 65536, MOST = 3 * BUFFER, MOST_LINES = MOST };
 
@@ -91,7 +92,7 @@ long fuzz_write(int to, const void *buffer, size_t wanted)
         abort();
     }
     if (to == 2) {
-        /* No interrupted calls here: the kit's os::fail does not try again (docs/FUZZING.md). */
+        /* No interrupted calls here: the kit's words on standard error give up after some of them (docs/FUZZING.md). */
         if (world.deaf) {
             errno = EBADF;
             return -1;
@@ -142,15 +143,12 @@ void rattle_set_errno(int error)
     errno = error;
 }
 
-/* The program's own name, and one argument. */
-size_t rattle_arg_count(void)
-{
-    return 2;
-}
-
+/* The program's own name, and one argument: its length, or -1 where there is none. */
 long rattle_arg(size_t which, char *buffer, size_t room)
 {
     static const char name[] = "ending";
+    if (which > 1)
+        return -1;
     if (which != 1 || room < sizeof name - 1) {
         fprintf(stderr, "the runner asks for argument %zu with room for %zu bytes\n", which, room);
         abort();
@@ -159,11 +157,10 @@ long rattle_arg(size_t which, char *buffer, size_t room)
     return sizeof name - 1;
 }
 
-int rattle_open_to_overwrite(const char *path, unsigned mode)
+int fuzz_open(const char *path, int how, ...)
 {
-    (void)mode;
-    if (strcmp(path, "ending") != 0) {
-        fprintf(stderr, "the runner opens another file\n");
+    if (strcmp(path, "ending") != 0 || (how & (O_ACCMODE | O_CREAT | O_TRUNC)) != (O_WRONLY | O_CREAT | O_TRUNC)) {
+        fprintf(stderr, "the runner opens another file, or not to write it anew\n");
         abort();
     }
     world.is_open = 1;
@@ -258,7 +255,10 @@ static void run_once(void)
     int read_fails = world.read_fails_at <= world.length;
     world.at = world.written = world.told = world.spelt = 0;
     world.failed = 0;
-    runner_main();
+    if (runner_main() != 0) {
+        fprintf(stderr, "the runner ends with another status\n");
+        abort();
+    }
     world.word[world.spelt] = 0;
     size_t due = owed(world.recording, read_fails ? world.read_fails_at : world.length, read_fails, lines);
     if (strcmp(world.word, world.write_fails_at < due ? "unwritten\n" : ending) != 0)
