@@ -3,7 +3,7 @@ use Prim.Native.Nat.{◌≤◌}
 use lib.ListN.{length, take}
 use lib.Seq.{length-take-le}
 use Rattle.streaming.specs.private.Advancing.{Roomy}
-use Rattle.reading.proofs.Parts.{brings_goes, brings_unknown}
+use Rattle.reading.proofs.Parts.{brings_goes, brings_full, brings_unknown}
 use native.Mathlib.Omega.{arith}
 use Rattle.reading.proofs.inner.bring.Goals as goal
 
@@ -12,6 +12,10 @@ returns-then-p c =
     let fits : c.advance-p.result.written ≤ length c.advance-p.new.out =
     omega (arith, c.advance-p.ensures.written_in, c.advance-p.auto.out) in
     brings_unknown _ _ _ c.advance-p.ensures (search rules) fits c.close.ensures.0 c.close.ensures.1
+
+pub returns-then-p-2 : goal.returns-then-p-2
+returns-then-p-2 c =
+    brings_full _ _ _ c.advance-p.ensures (search rules) (search rules) (omega (arith, c.advance-p.ensures.written_in, c.advance-p.auto.out))
 
 pub returns : goal.returns
 returns c =

@@ -1,5 +1,5 @@
 use Rattle.records.proofs.Laws.{is_whole, is_unknown}
-use Rattle.streaming.proofs.Stepping.{whole_taken, unknown_taken, found_item, found_at}
+use Rattle.streaming.proofs.Stepping.{stays_waiting, whole_taken, unknown_taken, found_item, found_at}
 use native.Mathlib.Omega.{arith}
 use Rattle.streaming.proofs.inner.take_item.Goals as goal
 
@@ -24,3 +24,9 @@ returns-in-Unknown c =
     let can = c.able.ensures.0 c.if-not-able.false in
     unknown_taken _ _ _ can (found_item _ _ c.take-found.ensures c.in-Unknown.is)
     c.put_unknown.ensures.0 c.put_unknown.ensures.1 (omega (arith, can.line, c.put_unknown.ensures.1))
+
+pub returns-in-Cut : goal.returns-in-Cut
+returns-in-Cut c = stays_waiting _ _ _ (found_item _ _ c.take-found.ensures c.in-Cut.is) tt
+
+pub returns-in-End : goal.returns-in-End
+returns-in-End c = stays_waiting _ _ _ (found_item _ _ c.take-found.ensures c.in-End.is) tt
