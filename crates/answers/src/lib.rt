@@ -13,7 +13,7 @@ use rm3014::{Judged, Verdict};
 
 // The kind of result of a record: whether its check agreed, with what the chain counted; for AACH
 // the verdict; or the number of the refusal.
-#[derive(Drop)]
+#[derive(Clone, Copy)]
 pub enum Answer {
     Good(Counts),
     Bad(Counts),

@@ -25,27 +25,27 @@ pub const KIND: u8 = 8;
 // 9 is retired and may never be given to anything else. The next new number is 10.
 
 // What an entry that has no value of its own answers.
-#[derive(Drop)]
+#[derive(Clone, Copy)]
 pub enum Outcome {
     Done,
     Refused(u8),
 }
 
 // A value, or the number of the refusal.
-#[derive(Drop)]
+#[derive(Clone, Copy)]
 pub enum Valued {
     Value(usize),
     Refused(u8),
 }
 
 // What a receive chain counted.
-#[derive(Drop)]
+#[derive(Clone, Copy)]
 pub struct Counts {
     pub disagreements: usize,
 }
 
 // What a receive chain answers: the check agreed, or did not, or the input was refused.
-#[derive(Drop)]
+#[derive(Clone, Copy)]
 pub enum Received {
     Good(Counts),
     Bad(Counts),

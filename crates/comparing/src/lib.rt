@@ -7,7 +7,7 @@ ghost use Rattle.std.specs.Prelude.{◌≡◌, ◌≤◌, min, length, take};
 ghost use Rattle.comparing.specs.Comparing.{compare};
 ghost use Rattle.comparing.specs.private.Gathering.{counts, difference, unerased, differing};
 // How many entries matched, or that some entry differs.
-#[derive(Drop)]
+#[derive(Clone, Copy)]
 pub enum Compared {
     Matched(usize),
     Differs,

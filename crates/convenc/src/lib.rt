@@ -24,7 +24,7 @@ pub struct ConvEncState {
 }
 
 // What the control encoder answers, and the state to go on from.
-#[derive(Drop)]
+#[derive(Clone, Copy)]
 pub struct ConvEncoded {
     pub outcome: Outcome,
     pub state: ConvEncState,
@@ -37,7 +37,7 @@ pub struct SpeechConvEncState {
 }
 
 // What the speech encoder answers, and the state to go on from.
-#[derive(Drop)]
+#[derive(Clone, Copy)]
 pub struct SpeechConvEncoded {
     pub outcome: Outcome,
     pub state: SpeechConvEncState,

@@ -14,7 +14,7 @@ const SYMBOLS: [usize; 8] = [0, 120, 168, 216, 432, 30, 432, 216];
 
 // What stands at a place: a whole record, with its kind and the place of its kind byte; a kind that
 // is not known; a record whose body is cut by the end; or the end.
-#[derive(Drop)]
+#[derive(Clone, Copy)]
 pub enum Item {
     Whole { kind: u8, place: usize },
     Unknown(u8),
@@ -23,7 +23,7 @@ pub enum Item {
 }
 
 // What a reader hands out, and where it then stands.
-#[derive(Drop)]
+#[derive(Clone, Copy)]
 pub struct Step {
     pub item: Item,
     pub at: usize,
@@ -76,7 +76,7 @@ pub fn step_at(s: &[u8], at: usize) -> Step
 }
 
 // A reader: the recording that it was lent, and its place in it.
-#[derive(Drop)]
+#[derive(Clone, Copy)]
 pub struct Reader<'a> {
     pub src: &'a [u8],
     pub at: usize,

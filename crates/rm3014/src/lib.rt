@@ -45,7 +45,7 @@ pub const COL_SYNDROMES: [u16; 30] = [
 
 // What was found in a received word: no wrong bit; one, at a place of 1 to 30 from the left, that was put right; or more.
 // Each carries 14 data bits, and Beyond those that were received.
-#[derive(Drop)]
+#[derive(Clone, Copy)]
 pub enum Verdict {
     Clean(u16),
     Mended(u8, u16),
@@ -53,7 +53,7 @@ pub enum Verdict {
 }
 
 // The verdict, or the number of the refusal.
-#[derive(Drop)]
+#[derive(Clone, Copy)]
 pub enum Judged {
     Is(Verdict),
     Refused(u8),

@@ -107,7 +107,7 @@ fn step(s: &[u8], count: u64, out: &mut [u8]) -> Stepped
 
 // What is kept at the buffer's front, how many bytes were written, how many whole records have been
 // read since the input began, and whether the reading has stopped.
-#[derive(Drop)]
+#[derive(Clone, Copy)]
 pub struct Advanced {
     pub kept: usize,
     pub written: usize,

@@ -1,5 +1,5 @@
--- The walk back from state 0 ends in state 0. A decoder that begins the other states with a score takes the same walk, if that score exceeds what
--- four steps can cost: after four steps every state has been reached from state 0.
+-- The walk back from state 0 ends in state 0: after four steps every state has been reached from state 0. Beside it stand the scores of a decoder that
+-- begins the other states with more than what four steps can cost.
 -- Assumes nothing.
 use mathlib.Core.Path.{◌≡◌, refl, sym}
 use mathlib.Core.List.{List, [], ◌∷◌}

@@ -32,13 +32,13 @@ const SPEECH: [[i8; 16]; 4] = [
 const HANDICAP: i16 = 4096;
 
 // The path scores of the sixteen states.
-#[derive(Drop)]
+#[derive(Clone, Copy)]
 pub struct Scores {
     pub m: [i16; 16],
 }
 
 // The scores after a step, and the choice at each state, state s at bit s.
-#[derive(Drop)]
+#[derive(Clone, Copy)]
 pub struct Turn {
     pub scores: Scores,
     pub taken: u16,
