@@ -1,4 +1,4 @@
-// Repeats a list of answered requests (compare/FORMAT.md) on the exported functions, and says how many came out equal: the answer, and
+// Repeats a list of answered requests (compare/FORMAT.md) on the functions of caplattice, and says how many came out equal: the answer, and
 // every entry of target and trellis after the call. Each that does not is named by its entry and the byte of the list at which it begins.
 // Added by us. The list holds the original's answers and, where document 01 refuses or reads otherwise, the independent program's.
 #![tactic(auto)]
