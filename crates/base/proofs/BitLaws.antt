@@ -122,3 +122,9 @@ disagrees_other (suc zero) zero h = refl
 disagrees_other (suc zero) (suc zero) h = refl
 disagrees_other (suc zero) (suc (suc y)) h = absurd (omega arith)
 disagrees_other (suc (suc r)) y h = refl
+
+-- of a slice that ends where the test does
+pub bits_only_whole : (n : ℕ) (s : List ℕ) → n ≤ length s → bits_only (length (take n s)) (take n s) ≡ bits_only n s
+bits_only_whole zero s h = refl
+bits_only_whole (suc n) [] h = absurd (omega arith)
+bits_only_whole (suc n) (a ∷ s) h = ap (both (ltb a 2)) (bits_only_whole n s (omega arith))

@@ -1,53 +1,49 @@
--- What an entry answers and leaves, from its refusal number; what no refusal says of each test; and that a chain never gives the retired number.
+-- What an entry answers and leaves, from what it owes; what no refusal says of each test; and that none has the retired number.
 -- Assumes nothing.
-use mathlib.Core.Path.{◌≡◌, refl, ap}
+use mathlib.Core.Path.{◌≡◌, refl, ap, sym, ◌∙◌}
 use mathlib.Core.Bool.{Bool, true, false}
-use Prim.Native.Nat.{ℕ, zero, suc}
 use native.Mathlib.Omega.{arith}
-use lib.Dec.{eqb}
-use Rattle.base.specs.Refusal.{LIMIT, SHORT, ROOM, BIT, SHUFFLE, WORD, FIELD, KIND, RETIRED, Current, accepted, when, outcome, unless, valued}
-use Rattle.base.specs.declared.Outcome.TheVariants.{Done, Refused}
-use Rattle.base.specs.declared.Valued.TheVariants as values
+use Rattle.std.specs.Prelude.{Ok, Err}
+use Rattle.base.specs.declared.Refusal.{Refusal}
+use Rattle.base.specs.declared.Refusal.TheVariants as refusals
+use Rattle.base.specs.Refusal.{Owed, number, RETIRED, Current, accepted, when, unless, valued}
 
--- a refusal gives its number and leaves the target
-pub refused : {A : Type 0} (n number : ℕ) (made kept : A) → n ≡ number → (n ≡ 0 → ⊥)
-    → (Refused n ≡ outcome number) × (kept ≡ unless number made kept)
-refused zero number made kept e h = absurd (h refl)
-refused (suc n) number made kept e h = rw (← e) (refl, refl)
+-- a refusal gives its reason and leaves the target
+pub refused : {A : Type 0} (refusal : Owed) (why : Refusal) (made kept : A) → refusal ≡ Err why → (Err why ≡ refusal) × (kept ≡ unless refusal made kept)
+refused refusal why made kept e = rw e (refl, refl)
 
 -- an entry that does not refuse is done, and leaves what it made
-pub done : {A : Type 0} (n number : ℕ) (made kept left : A) → n ≡ number → n ≡ 0 → left ≡ made
-    → (Done ≡ outcome number) × (left ≡ unless number made kept)
-done zero number made kept left e h was = rw (← e) (refl, was)
-done (suc n) number made kept left e h was = absurd (omega arith)
+pub done : {A : Type 0} (refusal : Owed) (made kept left : A) → refusal ≡ accepted → left ≡ made → (accepted ≡ refusal) × (left ≡ unless refusal made kept)
+done refusal made kept left e was = rw e (refl, was)
 
 -- the same two for an entry that has a value
-pub value_refused : (n number value : ℕ) → n ≡ number → (n ≡ 0 → ⊥) → values.Refused n ≡ valued number value
-value_refused zero number value e h = absurd (h refl)
-value_refused (suc n) number value e h = rw (← e)
+pub value_refused : {A : Type 0} (refusal : Owed) (why : Refusal) (value : A) → refusal ≡ Err why → Err why ≡ valued refusal value
+value_refused refusal why value e = rw e refl
 
-pub value_done : (n number value own : ℕ) → n ≡ number → n ≡ 0 → own ≡ value → values.Value own ≡ valued number value
-value_done zero number value own e h was = rw (← e) (ap values.Value was)
-value_done (suc n) number value own e h was = absurd (omega arith)
+pub value_done : {A : Type 0} (refusal : Owed) (value own : A) → refusal ≡ accepted → own ≡ value → Ok own ≡ valued refusal value
+value_done refusal value own e was = rw e (ap Ok was)
 
 -- where nothing is refused the first test failed, and the later ones refuse nothing
-pub passed : (test : Bool) (number later : ℕ) → when test (suc number) later ≡ 0 → (test ≡ false) × (later ≡ 0)
-passed true number later e = absurd (omega arith)
-passed false number later e = (refl, e)
+pub passed : (test : Bool) (why : Refusal) (later : Owed) → when test (Err why) later ≡ accepted → (test ≡ false) × (later ≡ accepted)
+passed true why later e = absurd cc
+passed false why later e = (refl, e)
+
+-- nothing is refused and something is, not both
+pub not_both : {A : Type 0} {refusal : Owed} {why : Refusal} → refusal ≡ accepted → refusal ≡ Err why → A
+not_both {why = why} e f = let both : accepted ≡ Err why = sym e ∙ f in absurd cc
 
 -- ---- the retired number
--- what neither a test gives nor the later ones, the chain does not give
-pub when_never : {A : Type 0} {value : A} (test : Bool) {first later : A} → (first ≡ value → ⊥) → (later ≡ value → ⊥) → when test first later ≡ value → ⊥
-when_never true h k = h
-when_never false h k = k
+number_current : (refusal : Refusal) → number refusal ≡ RETIRED → ⊥
+number_current refusals.Limit e = omega arith
+number_current refusals.Short e = omega arith
+number_current refusals.Room e = omega arith
+number_current refusals.Bit e = omega arith
+number_current refusals.Shuffle e = omega arith
+number_current refusals.Word e = omega arith
+number_current refusals.Field e = omega arith
+number_current refusals.Kind e = omega arith
 
--- a number that differs from the retired one, as two numerals show by computing
-pub differs : {number : ℕ} → eqb number RETIRED ≡ false → Current number
-differs apart e = let z : ◌≡◌ {A = ℕ} 0 1 = cc in omega arith
-
--- no number in use is the retired one
-pub in_use : Current accepted × Current LIMIT × Current SHORT × Current ROOM × Current BIT × Current SHUFFLE × Current WORD × Current FIELD × Current KIND
-in_use = omega arith
-
--- `search chain-current` proves of a chain that it never gives the retired number
-pub ruleset chain-current = (when_never, differs)
+-- whatever an entry owes, its number is in use
+pub in_use : (refusal : Owed) → Current refusal
+in_use (Ok done) e = omega arith
+in_use (Err refusal) e = number_current refusal e

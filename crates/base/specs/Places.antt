@@ -1,6 +1,6 @@
 -- What a loop over places leaves: lists made entry by entry, written over the front of a target, moved from place to place.
 -- Assumes nothing.
-use Rattle.std.specs.Prelude.{List, [], ◌∷◌, ◌++◌, ℕ, zero, suc, ◌+◌, ◌<◌, ◌≡◌, length, drop, get_or, set}
+use Rattle.std.specs.Prelude.{List, [], ◌∷◌, ◌++◌, ℕ, zero, suc, ◌<◌, ◌≡◌, length, drop, get_or, set}
 
 -- f 0, f 1, .. f (n - 1)
 unfoldable pub tabulate : (ℕ → ℕ) → ℕ → List ℕ

@@ -2,40 +2,38 @@
 // and the lists that a loop over places leaves behind. The definitions stand in specs/, their laws in proofs/.
 #![tactic(auto)]
 
+ghost use Rattle.base.specs.Refusal.{Numbers};
+
 pub mod inner;
 
-// The refusal numbers of document 01: a count over its limit, a source or a target that is too short, an entry that is no bit,
-// a shuffle that is no permutation, a word or a field that is too large, a kind or a mode that is not known.
-pub const LIMIT: u8 = 1;
-
-pub const SHORT: u8 = 2;
-
-pub const ROOM: u8 = 3;
-
-pub const BIT: u8 = 4;
-
-pub const SHUFFLE: u8 = 5;
-
-pub const WORD: u8 = 6;
-
-pub const FIELD: u8 = 7;
-
-pub const KIND: u8 = 8;
-
-// 9 is retired and may never be given to anything else. The next new number is 10.
-
-// What an entry that has no value of its own answers.
-#[derive(Clone, Copy)]
-pub enum Outcome {
-    Done,
-    Refused(u8),
+// Why an entry refuses its input. The numbers are those that callers in C get, and that the runner's lines say.
+#[derive(Clone, Copy, Debug, PartialEq, Eq)]
+pub enum Refusal {
+    // A count over its limit.
+    Limit = 1,
+    // A source that is too short.
+    Short = 2,
+    // A target or a trellis that is too short.
+    Room = 3,
+    // An entry that is no bit.
+    Bit = 4,
+    // A shuffle that is no permutation.
+    Shuffle = 5,
+    // A word that is too large.
+    Word = 6,
+    // A field that is too large.
+    Field = 7,
+    // A kind or a mode that is not known.
+    Kind = 8,
+    // 9 is retired and may never be given to anything else. The next new number is 10.
 }
 
-// A value, or the number of the refusal.
-#[derive(Clone, Copy)]
-pub enum Valued {
-    Value(usize),
-    Refused(u8),
+impl From<Refusal> for u8 {
+    ghost from_gives = { Numbers };
+
+    fn from(refusal: Refusal) -> u8 {
+        refusal as u8
+    }
 }
 
 // What a receive chain counted.
@@ -44,10 +42,9 @@ pub struct Counts {
     pub disagreements: usize,
 }
 
-// What a receive chain answers: the check agreed, or did not, or the input was refused.
+// What a receive chain answers to what it does not refuse: the check agreed, or did not.
 #[derive(Clone, Copy)]
 pub enum Received {
     Good(Counts),
     Bad(Counts),
-    Refused(u8),
 }

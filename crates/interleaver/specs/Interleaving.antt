@@ -2,7 +2,7 @@
 -- Entries and places are counted from 0 here: place i of 1..k is entry i - 1.
 -- Assumes nothing.
 use Rattle.std.specs.Prelude.{List, Bool, false, ℕ, zero, suc, ◌+◌, ◌*◌, ◌/◌, ◌%◌, ltb, eqb}
-use Rattle.base.specs.Refusal.{LIMIT, SHUFFLE, accepted, when, sized}
+use Rattle.base.specs.Refusal.{Owed, LIMIT, SHUFFLE, accepted, when, sized}
 use Rattle.base.specs.Bits.{both, either}
 use Rattle.base.specs.Places.{gather, scatter}
 
@@ -25,7 +25,7 @@ shared zero a = false
 shared (suc k) a = shared_up_to k (suc k) a
 
 -- what is refused for src entries of source and dst of target
-abbrev pub block_refusal : ℕ → ℕ → ℕ → ℕ → ℕ
+abbrev pub block_refusal : ℕ → ℕ → ℕ → ℕ → Owed
 block_refusal k a src dst = when (ltb 4096 k) LIMIT (when (ltb 65535 a) LIMIT (when (shared k a) SHUFFLE (sized src k dst k accepted)))
 
 -- the target after interleaving: each entry at its place, the rest as it was
@@ -41,7 +41,7 @@ abbrev pub matrix_place : ℕ → ℕ → ℕ → ℕ
 matrix_place lines columns x = x % columns * lines + x / columns
 
 -- what is refused for src entries of source and dst of target
-abbrev pub matrix_refusal : ℕ → ℕ → ℕ → ℕ → ℕ
+abbrev pub matrix_refusal : ℕ → ℕ → ℕ → ℕ → Owed
 matrix_refusal lines columns src dst =
     when (ltb 4096 lines) LIMIT
     (when (ltb 4096 columns) LIMIT (when (ltb 4096 (lines * columns)) LIMIT (sized src (lines * columns) dst (lines * columns) accepted)))

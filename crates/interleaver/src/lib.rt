@@ -11,7 +11,7 @@ ghost use Rattle.interleaver.specs.private.Walk.{onward, walk, Ready};
 ghost use Rattle.interleaver.specs.private.Lines.{MatrixFits, line_moved};
 ghost use Rattle.interleaver.specs.Interleaving.{shared, block_refusal, interleaved, deinterleaved, matrix_refusal, matrix_interleaved, matrix_deinterleaved};
 
-use base::{LIMIT, ROOM, SHORT, SHUFFLE};
+use base::Refusal;
 
 // The greatest number that divides both, by Euclid's step on the remainder.
 fn divisor(a: usize, b: usize) -> usize
@@ -33,47 +33,47 @@ fn shares(k: usize, a: usize) -> bool
     1 < divisor(k, a)
 }
 
-fn block_refusal(k: usize, a: usize, source: usize, target: usize) -> u8
+fn block_refusal(k: usize, a: usize, source: usize, target: usize) -> Result<(), Refusal>
     ensures { result ≡ block_refusal k a source target }
 {
     if 4096 < k {
-        return LIMIT;
+        return Err(Refusal::Limit);
     }
     if 65535 < a {
-        return LIMIT;
+        return Err(Refusal::Limit);
     }
     if shares(k, a) {
-        return SHUFFLE;
+        return Err(Refusal::Shuffle);
     }
     if source < k {
-        return SHORT;
+        return Err(Refusal::Short);
     }
     if target < k {
-        return ROOM;
+        return Err(Refusal::Room);
     }
-    0
+    Ok(())
 }
 
-fn matrix_refusal(lines: usize, columns: usize, source: usize, target: usize) -> u8
+fn matrix_refusal(lines: usize, columns: usize, source: usize, target: usize) -> Result<(), Refusal>
     ensures { result ≡ matrix_refusal lines columns source target }
 {
     if 4096 < lines {
-        return LIMIT;
+        return Err(Refusal::Limit);
     }
     if 4096 < columns {
-        return LIMIT;
+        return Err(Refusal::Limit);
     }
     let count = lines * columns;
     if 4096 < count {
-        return LIMIT;
+        return Err(Refusal::Limit);
     }
     if source < count {
-        return SHORT;
+        return Err(Refusal::Short);
     }
     if target < count {
-        return ROOM;
+        return Err(Refusal::Room);
     }
-    0
+    Ok(())
 }
 
 // a's remainder by k; for k 0, where nothing is moved, a itself.
@@ -127,31 +127,25 @@ fn collect(start: usize, step: usize, count: usize, input: &[u8], output: &mut [
 }
 
 // Place i of 1..k goes to 1 + (a i mod k).
-pub fn block_interleave(k: usize, a: usize, input: &[u8], output: &mut [u8]) -> base::Outcome
+pub fn block_interleave(k: usize, a: usize, input: &[u8], output: &mut [u8]) -> Result<(), Refusal>
     ensures { Leaves (block_refusal k a (length input.now) (length output.old))
         (interleaved k a input.now output.old) output.old output.new result }
 {
-    let refused = block_refusal(k, a, input.len(), output.len());
-    if refused != 0 {
-        return base::Outcome::Refused(refused);
-    }
+    block_refusal(k, a, input.len(), output.len())?;
     let step = block_step(k, a);
     spread(step, step, k, input, output);
-    base::Outcome::Done
+    Ok(())
 }
 
 // Place i of 1..k comes from 1 + (a i mod k).
-pub fn block_deinterleave(k: usize, a: usize, input: &[u8], output: &mut [u8]) -> base::Outcome
+pub fn block_deinterleave(k: usize, a: usize, input: &[u8], output: &mut [u8]) -> Result<(), Refusal>
     ensures { Leaves (block_refusal k a (length input.now) (length output.old))
         (written (deinterleaved k a input.now) output.old) output.old output.new result }
 {
-    let refused = block_refusal(k, a, input.len(), output.len());
-    if refused != 0 {
-        return base::Outcome::Refused(refused);
-    }
+    block_refusal(k, a, input.len(), output.len())?;
     let step = block_step(k, a);
     collect(step, step, k, input, output);
-    base::Outcome::Done
+    Ok(())
 }
 
 // Entry i of the line goes to i lines + line.
@@ -207,16 +201,13 @@ pub fn matrix_interleave(
     columns: usize,
     input: &[u8],
     output: &mut [u8],
-) -> base::Outcome
+) -> Result<(), Refusal>
     ensures { Leaves (matrix_refusal lines columns (length input.now) (length output.old))
         (matrix_interleaved lines columns input.now output.old) output.old output.new result }
 {
-    let refused = matrix_refusal(lines, columns, input.len(), output.len());
-    if refused != 0 {
-        return base::Outcome::Refused(refused);
-    }
+    matrix_refusal(lines, columns, input.len(), output.len())?;
     move_lines(lines, columns, input, output);
-    base::Outcome::Done
+    Ok(())
 }
 
 // Entry j columns + i comes from i lines + j, counted from 0.
@@ -225,14 +216,11 @@ pub fn matrix_deinterleave(
     columns: usize,
     input: &[u8],
     output: &mut [u8],
-) -> base::Outcome
+) -> Result<(), Refusal>
     ensures { Leaves (matrix_refusal lines columns (length input.now) (length output.old))
         (written (matrix_deinterleaved lines columns input.now) output.old) output.old output.new result }
 {
-    let refused = matrix_refusal(lines, columns, input.len(), output.len());
-    if refused != 0 {
-        return base::Outcome::Refused(refused);
-    }
+    matrix_refusal(lines, columns, input.len(), output.len())?;
     move_lines(columns, lines, input, output);
-    base::Outcome::Done
+    Ok(())
 }
