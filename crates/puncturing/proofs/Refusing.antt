@@ -1,15 +1,16 @@
--- What a refusal number of puncturing and depuncturing says: the tests that led to it, and what holds where nothing is refused.
+-- What a refusal of puncturing and depuncturing says: the tests that led to it, and what holds where nothing is refused.
 -- Assumes nothing.
 use mathlib.Core.Path.{◌≡◌}
 use Prim.Native.Nat.{ℕ, ◌≤◌}
 use lib.Dec.{ltb}
 use borrow.Author.Tests.{ltb-false, le-ltb}
-use Rattle.base.specs.Refusal.{LIMIT, SHORT, ROOM, KIND, accepted, when}
+use Rattle.base.specs.declared.Refusal.TheVariants as refusals
+use Rattle.base.specs.Refusal.{Owed, LIMIT, SHORT, ROOM, KIND, accepted, when}
 use Rattle.base.proofs.Refusals.{passed}
 use Rattle.puncturing.specs.Puncturing.{needed, puncture_refusal, depuncture_refusal}
 
 -- n entries, of which a are needed of the source and b of the target
-abbrev pub moving : ℕ → ℕ → ℕ → ℕ → ℕ → ℕ → ℕ
+abbrev pub moving : ℕ → ℕ → ℕ → ℕ → ℕ → ℕ → Owed
 moving mode n src dst a b =
     when (ltb 6 mode) KIND (when (ltb 4096 n) LIMIT (when (ltb src a) SHORT (when (ltb dst b) ROOM accepted)))
 
@@ -21,10 +22,10 @@ pub record Moves (mode n src dst a b : ℕ) : Type 0 where
 
 pub moves : (mode n src dst a b : ℕ) → moving mode n src dst a b ≡ accepted → Moves mode n src dst a b
 moves mode n src dst a b e =
-    let kind = passed (ltb 6 mode) 7 _ e in
-    let limit = passed (ltb 4096 n) 0 _ kind.1 in
-    let source = passed (ltb src a) 1 _ limit.1 in
-    let target = passed (ltb dst b) 2 _ source.1 in
+    let kind = passed (ltb 6 mode) refusals.Kind _ e in
+    let limit = passed (ltb 4096 n) refusals.Limit _ kind.1 in
+    let source = passed (ltb src a) refusals.Short _ limit.1 in
+    let target = passed (ltb dst b) refusals.Room _ source.1 in
     record {
       kind = ltb-false 6 mode kind.0;
       limit = ltb-false 4096 n limit.0;

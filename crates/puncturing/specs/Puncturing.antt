@@ -2,7 +2,7 @@
 -- Positions are counted from 1, as in the papers; places from 0.
 -- Assumes nothing.
 use Rattle.std.specs.Prelude.{List, [], ◌∷◌, ℕ, zero, suc, ◌+◌, ◌-◌, ◌*◌, ◌/◌, ltb, length, get_or}
-use Rattle.base.specs.Refusal.{LIMIT, KIND, accepted, when, sized}
+use Rattle.base.specs.Refusal.{Owed, LIMIT, KIND, accepted, when, sized}
 use Rattle.base.specs.Places.{gather, scatter}
 
 -- how many mother positions a period has, by mode
@@ -41,10 +41,10 @@ unfoldable pub needed : ℕ → ℕ → ℕ
 needed mode zero = 0
 needed mode (suc n) = position mode (suc n)
 
-abbrev pub puncture_refusal : ℕ → ℕ → ℕ → ℕ → ℕ
+abbrev pub puncture_refusal : ℕ → ℕ → ℕ → ℕ → Owed
 puncture_refusal mode n src dst = when (ltb 6 mode) KIND (when (ltb 4096 n) LIMIT (sized src (needed mode n) dst n accepted))
 
-abbrev pub depuncture_refusal : ℕ → ℕ → ℕ → ℕ → ℕ
+abbrev pub depuncture_refusal : ℕ → ℕ → ℕ → ℕ → Owed
 depuncture_refusal mode n src dst = when (ltb 6 mode) KIND (when (ltb 4096 n) LIMIT (sized src n dst (needed mode n) accepted))
 
 -- the n outputs that puncturing keeps

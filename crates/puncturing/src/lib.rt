@@ -1,6 +1,6 @@
 // Puncturing in seven modes: which entries of a mother word are sent, and where they stand when they come back.
 // Ported from lmac/components/convenc.rs; changed: a mode is a number that its P, t and period are looked up by; what the original
-// panics on is refused by number. A caller gets the whole output or, beside a refusal, nothing written.
+// panics on is refused. A caller gets the whole output or, beside a refusal, nothing written.
 #![tactic(auto)]
 
 ghost use Rattle.std.specs.Prelude.{◌≡◌, [], ℕ, ◌+◌, ◌*◌, ◌≤◌, ◌<◌, length, get_or};
@@ -9,7 +9,7 @@ ghost use Rattle.base.specs.Places.{written};
 ghost use Rattle.puncturing.specs.Puncturing.{needed, puncture_refusal, depuncture_refusal, punctured, depunctured};
 ghost use Rattle.puncturing.specs.private.Walk.{rows, Sound, Parameters, Lies, Stands, Period, Periods, Reaches, put, Holds, Carries, carried};
 
-use base::{KIND, LIMIT, Outcome, ROOM, SHORT};
+use base::Refusal;
 
 // P of the modes 2_3, 1_3, 292_432, 148_432, 112_168, 72_162 and 38_80, each filled up with zeros that are not read.
 const P: [[u8; 17]; 7] = [
@@ -265,64 +265,68 @@ fn carry(way: Direction, mode: u8, input: &[u8], len: usize, output: &mut [u8])
     }
 }
 
-fn puncture_refusal(mode: u8, n: usize, source: usize, room: usize) -> u8
+fn puncture_refusal(mode: u8, n: usize, source: usize, room: usize) -> Result<(), Refusal>
     ensures { result ≡ puncture_refusal mode n source room }
 {
     if 6 < mode {
-        return KIND;
+        return Err(Refusal::Kind);
     }
     if 4096 < n {
-        return LIMIT;
+        return Err(Refusal::Limit);
     }
     if source < needed(mode, n) {
-        return SHORT;
+        return Err(Refusal::Short);
     }
     if room < n {
-        return ROOM;
+        return Err(Refusal::Room);
     }
-    0
+    Ok(())
 }
 
-fn depuncture_refusal(mode: u8, n: usize, source: usize, room: usize) -> u8
+fn depuncture_refusal(mode: u8, n: usize, source: usize, room: usize) -> Result<(), Refusal>
     ensures { result ≡ depuncture_refusal mode n source room }
 {
     if 6 < mode {
-        return KIND;
+        return Err(Refusal::Kind);
     }
     if 4096 < n {
-        return LIMIT;
+        return Err(Refusal::Limit);
     }
     if source < n {
-        return SHORT;
+        return Err(Refusal::Short);
     }
     if room < needed(mode, n) {
-        return ROOM;
+        return Err(Refusal::Room);
     }
-    0
+    Ok(())
 }
 
 // The outputs numbered 1 to len that the mode keeps of a mother word.
-pub fn get_punctured_rate(mode: u8, input: &[u8], len: usize, output: &mut [u8]) -> Outcome
+pub fn get_punctured_rate(
+    mode: u8,
+    input: &[u8],
+    len: usize,
+    output: &mut [u8],
+) -> Result<(), Refusal>
     ensures { Leaves (puncture_refusal mode len (length input.now) (length output.old))
         (written (punctured mode len input.now) output.old) output.old output.new result }
 {
-    let refusal = puncture_refusal(mode, len, input.len(), output.len());
-    if refusal != 0 {
-        return Outcome::Refused(refusal);
-    }
+    puncture_refusal(mode, len, input.len(), output.len())?;
     carry(Direction::Puncturing, mode, input, len, output);
-    Outcome::Done
+    Ok(())
 }
 
 // The len entries back at their mother places. What is not kept stays as it was.
-pub fn tetra_rcpc_depunct(mode: u8, input: &[u8], len: usize, output: &mut [u8]) -> Outcome
+pub fn tetra_rcpc_depunct(
+    mode: u8,
+    input: &[u8],
+    len: usize,
+    output: &mut [u8],
+) -> Result<(), Refusal>
     ensures { Leaves (depuncture_refusal mode len (length input.now) (length output.old))
         (depunctured mode len input.now output.old) output.old output.new result }
 {
-    let refusal = depuncture_refusal(mode, len, input.len(), output.len());
-    if refusal != 0 {
-        return Outcome::Refused(refusal);
-    }
+    depuncture_refusal(mode, len, input.len(), output.len())?;
     carry(Direction::Depuncturing, mode, input, len, output);
-    Outcome::Done
+    Ok(())
 }
