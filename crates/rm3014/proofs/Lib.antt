@@ -1,5 +1,4 @@
 pub mod CodeLaws
-pub mod Answers
 pub mod VerdictLaws
 pub mod OriginalLaws
 pub mod Examples

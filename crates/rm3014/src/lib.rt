@@ -6,9 +6,9 @@
 ghost use Rattle.std.specs.Prelude.{◌≡◌, [], ◌<◌, get_or};
 ghost use Rattle.base.specs.Refusal.{valued};
 ghost use Rattle.rm3014.specs.Code.{table, code_word, upwards, columns, syndrome, data_of};
-ghost use Rattle.rm3014.specs.Verdict.{verdict, judged, input_refusal, word_refusal};
+ghost use Rattle.rm3014.specs.Verdict.{verdict, bounded, input_refusal, word_refusal};
 
-use base::{Valued, WORD};
+use base::Refusal;
 
 pub mod inner;
 
@@ -43,64 +43,50 @@ pub const COL_SYNDROMES: [u16; 30] = [
     0x0400, 0x0800, 0x1000, 0x2000, 0x4000, 0x8000,
 ];
 
+// Data of 14 bits, and words of 30.
+const DATA_LIMIT: u32 = 16384;
+
+const WORD_LIMIT: u32 = 0x4000_0000;
+
 // What was found in a received word: no wrong bit; one, at a place of 1 to 30 from the left, that was put right; or more.
 // Each carries 14 data bits, and Beyond those that were received.
-#[derive(Clone, Copy)]
+#[derive(Clone, Copy, Debug, PartialEq, Eq)]
 pub enum Verdict {
     Clean(u16),
     Mended(u8, u16),
     Beyond(u16),
 }
 
-// The verdict, or the number of the refusal.
-#[derive(Clone, Copy)]
-pub enum Judged {
-    Is(Verdict),
-    Refused(u8),
-}
-
 // The code word of 14 data bits.
-pub fn tetra_rm3014_compute(input: u16) -> Valued
+pub fn tetra_rm3014_compute(input: u16) -> Result<u32, Refusal>
     ensures { result ≡ valued (input_refusal input) (code_word input) }
 {
-    let refusal = input_refusal(input);
-    if refusal != 0 {
-        return Valued::Refused(refusal);
-    }
-    Valued::Value(inner::code_word(input) as usize)
+    refuse_from(DATA_LIMIT, u32::from(input))?;
+    Ok(inner::code_word(input))
 }
 
 // The data bits of a word as they stand.
-pub fn tetra_rm3014_decode_naive(codeword: u32) -> Valued
+pub fn tetra_rm3014_decode_naive(codeword: u32) -> Result<u16, Refusal>
     ensures { result ≡ valued (word_refusal codeword) (data_of codeword) }
 {
-    let refusal = word_refusal(codeword);
-    if refusal != 0 {
-        return Valued::Refused(refusal);
-    }
-    Valued::Value((codeword >> 16) as usize)
+    refuse_from(WORD_LIMIT, codeword)?;
+    Ok((codeword >> 16) as u16)
 }
 
 // The syndrome of a word.
-pub fn compute_syndrome(codeword: u32) -> Valued
+pub fn compute_syndrome(codeword: u32) -> Result<u16, Refusal>
     ensures { result ≡ valued (word_refusal codeword) (syndrome codeword) }
 {
-    let refusal = word_refusal(codeword);
-    if refusal != 0 {
-        return Valued::Refused(refusal);
-    }
-    Valued::Value(inner::syndrome_of(codeword) as usize)
+    refuse_from(WORD_LIMIT, codeword)?;
+    Ok(inner::syndrome_of(codeword))
 }
 
 // The verdict on a word.
-pub fn tetra_rm3014_decode_limited_ecc(codeword: u32) -> Judged
-    ensures { result ≡ judged (word_refusal codeword) (verdict codeword) }
+pub fn tetra_rm3014_decode_limited_ecc(codeword: u32) -> Result<Verdict, Refusal>
+    ensures { result ≡ valued (word_refusal codeword) (verdict codeword) }
 {
-    let refusal = word_refusal(codeword);
-    if refusal != 0 {
-        return Judged::Refused(refusal);
-    }
-    Judged::Is(inner::verdict_of(codeword))
+    refuse_from(WORD_LIMIT, codeword)?;
+    Ok(inner::verdict_of(codeword))
 }
 
 // COL_SYNDROMES, worked out from the table.
@@ -114,16 +100,14 @@ pub fn compute_col_syndromes() -> [u16; 30]
     out
 }
 
-fn input_refusal(input: u16) -> u8
-    ensures { result ≡ input_refusal input }
+// A number that is not below the limit is refused.
+fn refuse_from(limit: u32, number: u32) -> Result<(), Refusal>
+    ensures { result ≡ bounded limit number }
 {
-    if 16384 <= input { WORD } else { 0 }
-}
-
-fn word_refusal(codeword: u32) -> u8
-    ensures { result ≡ word_refusal codeword }
-{
-    if 0x4000_0000 <= codeword { WORD } else { 0 }
+    if limit <= number {
+        return Err(Refusal::Word);
+    }
+    Ok(())
 }
 
 fn col_syndrome(k: usize) -> u16
