@@ -2,8 +2,8 @@
 -- Assumes nothing.
 use Prim.Native.Nat.{ℕ}
 use Rattle.base.specs.Refusal.{Current}
-use Rattle.base.proofs.Refusals.{chain-current}
+use Rattle.base.proofs.Refusals.{in_use}
 use Rattle.speech_crc.specs.Check.{check_refusal}
 
 pub never_nine : (src dst : ℕ) → Current (check_refusal src dst)
-never_nine src dst = search chain-current
+never_nine src dst = in_use (check_refusal src dst)

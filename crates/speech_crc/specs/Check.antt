@@ -3,7 +3,7 @@
 -- Assumes nothing.
 use mathlib.Core.List.{List, [], ◌∷◌, ◌++◌, foldr}
 use Rattle.std.specs.Prelude.{ℕ, zero, suc, ◌+◌, ◌-◌, ◌*◌, ◌%◌, get_or, replicate}
-use Rattle.base.specs.Refusal.{accepted, sized}
+use Rattle.base.specs.Refusal.{Owed, accepted, sized}
 use Rattle.base.specs.Places.{tabulate}
 
 -- the divisor X^7 + X^3 + 1 after its leading term
@@ -40,5 +40,5 @@ speech_check src =
     tabulate (λ i. get_or (remainder (data_bits src)) (6 - i) 0) 7
     ++ ((foldr ◌+◌ 0 (data_bits src) + foldr ◌+◌ 0 (remainder (data_bits src))) % 2 ∷ [])
 
-abbrev pub check_refusal : ℕ → ℕ → ℕ
+abbrev pub check_refusal : ℕ → ℕ → Owed
 check_refusal src dst = sized src 60 dst 8 accepted

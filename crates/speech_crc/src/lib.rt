@@ -1,5 +1,5 @@
 // The check of speech class 2: seven remainder bits and a parity bit.
-// Ported from speech_crc in lmac/components/errorcontrol.rs; changed: slices of any length, a lent target, refusal numbers,
+// Ported from speech_crc in lmac/components/errorcontrol.rs; changed: slices of any length, a lent target, refusals,
 // and the parity runs over the 60 data bits alone where the original's runs over the whole slice.
 #![tactic(auto)]
 
@@ -9,7 +9,7 @@ ghost use Rattle.base.specs.Places.{written, tabulate};
 ghost use Rattle.base.specs.Refusal.{Leaves};
 ghost use Rattle.speech_crc.specs.Check.{data_bits, remainder, speech_check, check_refusal};
 
-use base::{Outcome, ROOM, SHORT};
+use base::Refusal;
 
 // The remainder, the highest degree first: a register of seven coefficients takes the data in, the last bit first.
 fn divide(class2: &[u8]) -> [u8; 7]
@@ -83,17 +83,25 @@ fn put_check(class2: &[u8], check: &mut [u8])
     put(left, last, check);
 }
 
-// Writes the eight check bits of the 60 data bits, or refuses and writes nothing: SHORT below 60 entries, ROOM below 8.
-pub fn speech_crc(class2: &[u8], check: &mut [u8]) -> Outcome
+// SHORT below 60 entries, ROOM below 8.
+fn check_refusal(class2: usize, check: usize) -> Result<(), Refusal>
+    ensures { result ≡ check_refusal class2 check }
+{
+    if class2 < 60 {
+        return Err(Refusal::Short);
+    }
+    if check < 8 {
+        return Err(Refusal::Room);
+    }
+    Ok(())
+}
+
+// Writes the eight check bits of the 60 data bits, or refuses and writes nothing.
+pub fn speech_crc(class2: &[u8], check: &mut [u8]) -> Result<(), Refusal>
     ensures { Leaves (check_refusal (length class2.now) (length check.old))
         (written (speech_check class2.now) check.old) check.old check.new result }
 {
-    if class2.len() < 60 {
-        return Outcome::Refused(SHORT);
-    }
-    if check.len() < 8 {
-        return Outcome::Refused(ROOM);
-    }
+    check_refusal(class2.len(), check.len())?;
     put_check(class2, check);
-    Outcome::Done
+    Ok(())
 }
