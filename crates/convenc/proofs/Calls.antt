@@ -7,9 +7,7 @@ use native.Mathlib.Nat.{mul-le-mul_left}
 use native.Mathlib.Omega.{arith}
 use lib.ListN.{length, take}
 use lib.Seq.{length-take-le}
-use Rattle.base.specs.declared.Outcome.{Outcome}
-use Rattle.base.specs.declared.Outcome.TheVariants.{Done}
-use Rattle.base.specs.Refusal.{accepted}
+use Rattle.base.specs.Refusal.{Owed, accepted}
 use Rattle.base.specs.Bits.{Bits}
 use Rattle.base.specs.Places.{written}
 use Rattle.base.proofs.BitLaws.{bits_only_yes, bits_only_bits}
@@ -38,10 +36,10 @@ front_accepted rate n d src dst four some h e =
     (bits_only_bits n src (bits_only_yes n src a.input)) (four_bits d four (a.delayed some)).bits
 
 -- what an encoder that accepts leaves
-pub encodes : (code : List (List ℕ)) (d src dst : List ℕ) (answer : Outcome) (d' dst' : List ℕ) → Encoded code d src dst answer d' dst'
+pub encodes : (code : List (List ℕ)) (d src dst : List ℕ) (answer : Owed) (d' dst' : List ℕ) → Encoded code d src dst answer d' dst'
     → encode_refusal (length code) d src (length dst) ≡ accepted
-    → (answer ≡ Done) × (d' ≡ delays d src) × (dst' ≡ written (encode (outputs code) (number d) src) dst)
-encodes code d src dst answer d' dst' e a = (rw a at e.answered, rw a at e.state, rw a at e.target)
+    → (answer ≡ accepted) × (d' ≡ delays d src) × (dst' ≡ written (encode (outputs code) (number d) src) dst)
+encodes code d src dst answer d' dst' e a = (e.answered ∙ a, rw a at e.state, rw a at e.target)
 
 -- a call that goes on from where another left off
 pub two_calls : (code : List (List ℕ)) (d v w : List ℕ) → Four d → Bits v
@@ -57,7 +55,7 @@ clear_four : Four clear
 clear_four = record { len = refl; bits = (omega arith, (omega arith, (omega arith, (omega arith, tt)))) }
 
 -- the two targets of one new encoder that is lent twice
-pub in_turn : (v w x x' y y' d e f : List ℕ) (one two : Outcome) → d ≡ clear → Encoded speech d v x one e x' → Encoded speech e w y two f y'
+pub in_turn : (v w x x' y y' d e f : List ℕ) (one two : Owed) → d ≡ clear → Encoded speech d v x one e x' → Encoded speech e w y two f y'
     → encode_refusal 3 clear v (length x) ≡ accepted → encode_refusal 3 clear w (length y) ≡ accepted → InTurn v w x x' y y'
 in_turn v w x x' y y' d e f one two new first second open-first open-second =
     let granted = accepts 3 clear v (length x) open-first in

@@ -1,6 +1,6 @@
--- What a refusal number says: the tests that led to it, and what holds where nothing is refused.
+-- What a refusal says: the tests that led to it, and what holds where nothing is refused.
 -- Assumes nothing.
-use mathlib.Core.Path.{◌≡◌, refl, subst}
+use mathlib.Core.Path.{◌≡◌, refl, sym, subst}
 use mathlib.Core.List.{List, [], ◌∷◌}
 use mathlib.Core.Bool.{true, not}
 use Prim.Native.Nat.{ℕ, ◌*◌, ◌≤◌, ◌<◌}
@@ -10,11 +10,13 @@ use lib.Dec.{ltb}
 use lib.ListN.{length}
 use lib.Seq.{take-length}
 use borrow.Author.Tests.{ltb-false, not-false, le-ltb}
+use Rattle.std.specs.Prelude.{Err}
 use Rattle.base.specs.Bits.{Bits, bits_only}
+use Rattle.base.specs.declared.Refusal.{Refusal}
+use Rattle.base.specs.declared.Refusal.TheVariants as refusals
 use Rattle.base.specs.Refusal.{LIMIT, ROOM, BIT, accepted, when}
 use Rattle.base.proofs.BitLaws.{bits_only_bits}
 use Rattle.base.proofs.Refusals.{refused, passed}
-use Rattle.base.specs.declared.Outcome.TheVariants.{Done, Refused}
 use Rattle.base.specs.Places.{written}
 use Rattle.trellis.specs.Nearest.{encode}
 use Rattle.base.specs.Digits.{number}
@@ -30,10 +32,10 @@ pub record Accepted (rate : ℕ) (d src : List ℕ) (dst : ℕ) : Type 0 where
 pub accepts : (rate : ℕ) (d src : List ℕ) (dst : ℕ) → encode_refusal rate d src dst ≡ accepted → Accepted rate d src dst
 accepts rate d [] dst e = record { limit = omega arith; room = omega (arith, mul-zero rate); input = tt; delayed = λ h. absurd (omega arith) }
 accepts rate d (b ∷ src) dst e =
-    let limit = passed (ltb 4096 (length (b ∷ src))) 0 _ e in
-    let room = passed (ltb dst (rate * length (b ∷ src))) 2 _ limit.1 in
-    let input = passed (not (bits_only (length (b ∷ src)) (b ∷ src))) 3 _ room.1 in
-    let delayed = passed (not (bits_only 4 d)) 3 _ input.1 in
+    let limit = passed (ltb 4096 (length (b ∷ src))) refusals.Limit _ e in
+    let room = passed (ltb dst (rate * length (b ∷ src))) refusals.Room _ limit.1 in
+    let input = passed (not (bits_only (length (b ∷ src)) (b ∷ src))) refusals.Bit _ room.1 in
+    let delayed = passed (not (bits_only 4 d)) refusals.Bit _ input.1 in
     record {
       limit = ltb-false 4096 (length (b ∷ src)) limit.0;
       room = ltb-false dst (rate * length (b ∷ src)) room.0;
@@ -57,15 +59,3 @@ pub refuses_none : (rate : ℕ) (d src : List ℕ) (dst : ℕ) → (length src �
     → bits_only (length src) src ≡ true → bits_only 4 d ≡ true → accepted ≡ encode_refusal rate d src dst
 refuses_none rate d src dst some limit room input delayed =
     rw (refusal_some rate d src dst some, le-ltb 4096 (length src) limit, le-ltb dst (rate * length src) room, input, delayed)
-
--- ---- an entry's promise, by whether it refuses
-pub encoded_refused : (code : List (List ℕ)) (d src dst : List ℕ) (n : ℕ) → n ≡ encode_refusal (length code) d src (length dst) → (n ≡ 0 → ⊥)
-    → Encoded code d src dst (Refused n) d dst
-encoded_refused code d src dst n e some =
-    let target = refused n (encode_refusal (length code) d src (length dst)) (written (encode (outputs code) (number d) src) dst) dst e some in
-    let state = refused n (encode_refusal (length code) d src (length dst)) (delays d src) d e some in
-    record { answered = target.0; target = target.1; state = state.1 }
-
-pub encoded_done : (code : List (List ℕ)) (d src dst : List ℕ) {d' dst' : List ℕ} → encode_refusal (length code) d src (length dst) ≡ accepted
-    → (d' ≡ delays d src) × (dst' ≡ written (encode (outputs code) (number d) src) dst) → Encoded code d src dst Done d' dst'
-encoded_done code d src dst e p = record { answered = rw e; target = rw e p.1; state = rw e p.0 }

@@ -16,7 +16,6 @@ use Rattle.base.specs.Places.{written}
 use Rattle.base.proofs.Lists.{written_length}
 use Rattle.base.proofs.BitLaws.{bits_at, bits_only_bits, bits_only_yes}
 use Rattle.base.specs.Refusal.{accepted}
-use Rattle.base.specs.declared.Outcome.TheVariants.{Done}
 use Rattle.trellis.specs.Nearest.{encode}
 use Rattle.trellis.specs.private.Nearest.{after}
 use Rattle.base.specs.Digits.{number}
@@ -175,13 +174,3 @@ module _ {code : List (List ℕ)} {src dst : List ℕ} {i : ℕ} {dst' : List �
 pub front_whole : (code : List (List ℕ)) (d src old : List ℕ) {dst : List ℕ} → length src < 4 → dst ≡ written (encode (outputs code) (number d) src) old
     → dst ≡ written (encode (outputs code) (number d) (take 4 src)) old
 front_whole code d src old h e = e ∙ ap (λ (w : List ℕ). written (encode (outputs code) (number d) w) old) (sym (take_all 4 src (omega arith)))
-
-module _ (code : List (List ℕ)) (d src old : List ℕ) {n : ℕ} (owed : n ≡ encode_refusal (length code) d src (length old)) (none : n ≡ 0) where
-  pub entry_room : length code * length src ≤ length old
-  entry_room = (accepts (length code) d src (length old) (sym owed ∙ none)).room
-
-  pub entry_done : {d' dst dst' : List ℕ} → length d ≡ 4 → (d' ≡ delays d src) × (dst ≡ written (encode (outputs code) (number d) (take 4 src)) old)
-      → GoesOn code src dst dst' → Encoded code d src old Done d' dst'
-  entry_done l first on =
-      let accept = sym owed ∙ none in
-      encoded_done code d src old accept (first.0, on d old l accept first.1)

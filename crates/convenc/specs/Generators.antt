@@ -1,8 +1,7 @@
 -- The mother codes by their generator polynomials: control (EN 300 392-2, 8.2.3.1.1) and speech (EN 300 395-2, 5.4.3.1).
 -- Assumes nothing.
 use Rattle.std.specs.Prelude.{◌≡◌, List, [], ◌∷◌, ◌++◌, map, reverse, not, ℕ, ◌*◌, ◌%◌, ltb, length, take}
-use Rattle.base.specs.declared.Outcome.{Outcome}
-use Rattle.base.specs.Refusal.{LIMIT, ROOM, BIT, accepted, when, unless, outcome}
+use Rattle.base.specs.Refusal.{Owed, LIMIT, ROOM, BIT, accepted, when, unless}
 use Rattle.base.specs.Places.{written}
 use Rattle.base.specs.Bits.{bits_only}
 use Rattle.base.specs.Digits.{digits, number, dot}
@@ -33,7 +32,7 @@ abbrev pub outputs : List (List ℕ) → ℕ → List ℕ
 outputs gs x = map (λ g. tapped g x) gs
 
 -- an empty input succeeds whatever the delays hold
-abbrev pub encode_refusal : ℕ → List ℕ → List ℕ → ℕ → ℕ
+abbrev pub encode_refusal : ℕ → List ℕ → List ℕ → ℕ → Owed
 encode_refusal rate delayed [] dst = accepted
 encode_refusal rate delayed (b ∷ src) dst =
     when (ltb 4096 (length (b ∷ src))) LIMIT
@@ -45,7 +44,7 @@ abbrev pub delays : List ℕ → List ℕ → List ℕ
 delays delayed src = take 4 (reverse src ++ delayed)
 
 -- what an encoder of this code answers, hands back and leaves in its target; it goes on from the number that the delays say, the newest first
-pub record Encoded (code : List (List ℕ)) (delayed src dst : List ℕ) (answer : Outcome) (delayed' dst' : List ℕ) : Type 0 where
-  pub answered : answer ≡ outcome (encode_refusal (length code) delayed src (length dst))
+pub record Encoded (code : List (List ℕ)) (delayed src dst : List ℕ) (answer : Owed) (delayed' dst' : List ℕ) : Type 0 where
+  pub answered : answer ≡ encode_refusal (length code) delayed src (length dst)
   pub target : dst' ≡ unless (encode_refusal (length code) delayed src (length dst)) (written (encode (outputs code) (number delayed) src) dst) dst
   pub state : delayed' ≡ unless (encode_refusal (length code) delayed src (length dst)) (delays delayed src) delayed

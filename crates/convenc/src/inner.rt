@@ -10,6 +10,6 @@ pub fn encode_both(first: &[u8], second: &[u8], first_output: &mut [u8], second_
     ensures { InTurn first.now second.now first_output.old first_output.new second_output.old second_output.new }
 {
     let mut e = crate::SpeechConvEncState::new();
-    e.encode_lent(first, first_output);
-    e.encode_lent(second, second_output);
+    let _ = e.encode_lent(first, first_output);
+    let _ = e.encode_lent(second, second_output);
 }

@@ -13,7 +13,7 @@ ghost use Rattle.base.specs.Digits.{number};
 ghost use Rattle.convenc.specs.Generators.{control, control_third, speech, outputs, delays, encode_refusal, Encoded};
 ghost use Rattle.convenc.specs.private.Tapping.{generators, taps, newest, GoesOn};
 
-use base::{BIT, LIMIT, Outcome, ROOM};
+use base::Refusal;
 
 pub mod inner;
 
@@ -26,7 +26,7 @@ pub struct ConvEncState {
 // What the control encoder answers, and the state to go on from.
 #[derive(Clone, Copy)]
 pub struct ConvEncoded {
-    pub outcome: Outcome,
+    pub outcome: Result<(), Refusal>,
     pub state: ConvEncState,
 }
 
@@ -39,32 +39,32 @@ pub struct SpeechConvEncState {
 // What the speech encoder answers, and the state to go on from.
 #[derive(Clone, Copy)]
 pub struct SpeechConvEncoded {
-    pub outcome: Outcome,
+    pub outcome: Result<(), Refusal>,
     pub state: SpeechConvEncState,
 }
 
-// Which refusal an encoder of this rate owes, 0 for none.
-fn encode_refusal(rate: usize, delayed: [u8; 4], input: &[u8], room: usize) -> u8
+// Which refusal an encoder of this rate owes.
+fn encode_refusal(rate: usize, delayed: [u8; 4], input: &[u8], room: usize) -> Result<(), Refusal>
     requires { rate ≤ 4 }
     ensures { result ≡ encode_refusal rate delayed input.now room }
 {
     let n = input.len();
     if n == 0 {
-        return 0;
+        return Ok(());
     }
     if 4096 < n {
-        return LIMIT;
+        return Err(Refusal::Limit);
     }
     if room < rate * n {
-        return ROOM;
+        return Err(Refusal::Room);
     }
-    if !base::inner::bits_only(input, n) {
-        return BIT;
+    if !base::inner::bits_only(input) {
+        return Err(Refusal::Bit);
     }
-    if !base::inner::bits_only(&delayed, 4) {
-        return BIT;
+    if !base::inner::bits_only(&delayed) {
+        return Err(Refusal::Bit);
     }
-    0
+    Ok(())
 }
 
 // The codes that an encoder follows: control, the first three generators of control, speech.
@@ -295,9 +295,9 @@ impl ConvEncState {
     {
         let delayed = self.delayed;
         let refusal = encode_refusal(4, delayed, input, output.len());
-        if refusal != 0 {
+        if refusal.is_err() {
             return ConvEncoded {
-                outcome: Outcome::Refused(refusal),
+                outcome: refusal,
                 state: self,
             };
         }
@@ -305,7 +305,7 @@ impl ConvEncState {
         control_on(input, output);
         let newer = after.delayed;
         ConvEncoded {
-            outcome: Outcome::Done,
+            outcome: Ok(()),
             state: ConvEncState { delayed: newer },
         }
     }
@@ -316,9 +316,9 @@ impl ConvEncState {
     {
         let delayed = self.delayed;
         let refusal = encode_refusal(3, delayed, input, output.len());
-        if refusal != 0 {
+        if refusal.is_err() {
             return ConvEncoded {
-                outcome: Outcome::Refused(refusal),
+                outcome: refusal,
                 state: self,
             };
         }
@@ -330,7 +330,7 @@ impl ConvEncState {
         control_third_on(input, output);
         let newer = after.delayed;
         ConvEncoded {
-            outcome: Outcome::Done,
+            outcome: Ok(()),
             state: ConvEncState { delayed: newer },
         }
     }
@@ -357,9 +357,9 @@ impl SpeechConvEncState {
     {
         let delayed = self.delayed;
         let refusal = encode_refusal(3, delayed, input, output.len());
-        if refusal != 0 {
+        if refusal.is_err() {
             return SpeechConvEncoded {
-                outcome: Outcome::Refused(refusal),
+                outcome: refusal,
                 state: self,
             };
         }
@@ -367,13 +367,13 @@ impl SpeechConvEncState {
         speech_on(input, output);
         let newer = after.delayed;
         SpeechConvEncoded {
-            outcome: Outcome::Done,
+            outcome: Ok(()),
             state: SpeechConvEncState { delayed: newer },
         }
     }
 
     // The same, of an encoder that is lent: the next call goes on from where this one ends.
-    pub fn encode_lent(&mut self, input: &[u8], output: &mut [u8]) -> Outcome
+    pub fn encode_lent(&mut self, input: &[u8], output: &mut [u8]) -> Result<(), Refusal>
         ensures { Encoded speech self.old.delayed input.now output.old result self.new.delayed output.new }
     {
         let r = (*self).encode(input, output);
