@@ -3,8 +3,8 @@
 use mathlib.Core.List.{List}
 use Prim.Native.Nat.{ℕ}
 use Rattle.base.specs.Refusal.{Current}
-use Rattle.base.proofs.Refusals.{chain-current}
+use Rattle.base.proofs.Refusals.{in_use}
 use Rattle.crc16.specs.Crc.{bytes_refusal}
 
 pub never_nine : (bytes : List ℕ) (n : ℕ) → Current (bytes_refusal bytes n)
-never_nine bytes n = search chain-current
+never_nine bytes n = in_use (bytes_refusal bytes n)

@@ -4,14 +4,14 @@ use mathlib.Core.Path.{◌≡◌, refl, sym, ap, ◌∙◌}
 use mathlib.Core.List.{List, [], ◌∷◌, ◌++◌}
 use Prim.Native.Nat.{ℕ, ◌+◌, ◌*◌, ◌/◌, ◌%◌, ◌≤◌, ◌<◌}
 use borrow.Author.Tests.{lt-ltb, le-ltb}
-use native.Mathlib.Numerals.{add-one}
 use native.Mathlib.Omega.{arith}
 use lib.Bits.{xor_lt}
-use lib.ListN.{length, take, get_or}
-use lib.Seq.{take-suc, take_all}
+use lib.ListN.{length}
 use Rattle.base.proofs.Lists.{tabulate_more}
-use Rattle.base.specs.declared.Valued.TheVariants.{Value, Refused}
-use Rattle.base.specs.Refusal.{SHORT, valued}
+use Rattle.std.specs.Prelude.{Ok, Err}
+use Rattle.std.specs.List.{fold}
+use Rattle.base.specs.declared.Refusal.TheVariants as refusals
+use Rattle.base.specs.Refusal.{valued}
 use Rattle.base.specs.Places.{tabulate}
 use Rattle.crc16.specs.Crc.{GENERATOR, step, register, bit_of, bytes_refusal}
 
@@ -41,26 +41,22 @@ pub register_more : (reg : ℕ) (a : List ℕ) (b : ℕ) → register reg (a ++ 
 unfolding register
 register_more reg a b = register_append reg a (b ∷ [])
 
--- ---- a turn of the loops
-pub entry_more : (crc reg r i : ℕ) (s : List ℕ) → i < length s → reg ≡ register crc (take i s) → r ≡ step reg (get_or s i 0)
-    → r ≡ register crc (take (i + 1) s)
-entry_more crc reg r i s h p q =
-    q ∙ ap (λ (x : ℕ). step x (get_or s i 0)) p ∙ sym (register_more crc (take i s) (get_or s i 0))
-    ∙ ap (register crc) (sym (rw (add-one, take-suc s i 0)))
+-- the same in std's word
+pub folded : (reg : ℕ) (bs : List ℕ) → register reg bs ≡ fold step reg bs
+unfolding register
+folded reg [] = refl
+folded reg (b ∷ bs) = folded (step reg b) bs
 
+-- ---- a turn of the loops
 pub packed_more : (crc reg r i b : ℕ) (s : List ℕ) → reg ≡ register crc (tabulate (bit_of s) i) → b ≡ bit_of s i → r ≡ step reg b
     → r ≡ register crc (tabulate (bit_of s) (i + 1))
 packed_more crc reg r i b s p o q =
     q ∙ ap (step reg) o ∙ ap (λ (x : ℕ). step x (bit_of s i)) p ∙ sym (register_more crc (tabulate (bit_of s) i) (bit_of s i))
     ∙ ap (register crc) (sym (tabulate_more (bit_of s) i))
 
--- two counts past the end take the same entries
-pub take_past : (s : List ℕ) (i n : ℕ) → length s ≤ i → i ≤ n → take i s ≡ take n s
-take_past s i n h k = take_all i s h ∙ sym (take_all n s (omega arith))
-
 -- ---- the byte form's answers
-pub bytes_short : (s : List ℕ) (n value : ℕ) → 8 * length s < n → Refused SHORT ≡ valued (bytes_refusal s n) value
+pub bytes_short : (s : List ℕ) (n value : ℕ) → 8 * length s < n → Err refusals.Short ≡ valued (bytes_refusal s n) value
 bytes_short s n value h = rw (lt-ltb (8 * length s) n h)
 
-pub bytes_enough : (s : List ℕ) (n r value : ℕ) → n ≤ 8 * length s → r ≡ value → Value r ≡ valued (bytes_refusal s n) value
-bytes_enough s n r value h e = rw (le-ltb (8 * length s) n h) (ap Value e)
+pub bytes_enough : (s : List ℕ) (n r value : ℕ) → n ≤ 8 * length s → r ≡ value → Ok r ≡ valued (bytes_refusal s n) value
+bytes_enough s n r value h e = rw (le-ltb (8 * length s) n h) (ap Ok e)

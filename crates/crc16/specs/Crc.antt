@@ -3,7 +3,7 @@
 use mathlib.Core.List.{List, foldl}
 use Rattle.std.specs.Prelude.{ℕ, ◌+◌, ◌-◌, ◌*◌, ◌/◌, ◌%◌, ◌^◌, ltb, length, get_or}
 use Rattle.std.specs.Int.Bits.{bit_xor}
-use Rattle.base.specs.Refusal.{SHORT, accepted, when}
+use Rattle.base.specs.Refusal.{Owed, SHORT, accepted, when}
 use Rattle.base.specs.Digits.{digits}
 
 -- the generator without its top term
@@ -27,7 +27,7 @@ abbrev pub bit_of : List ℕ → ℕ → ℕ
 bit_of bytes i = get_or bytes (i / 8) 0 / 2 ^ (7 - i % 8) % 2
 
 -- the byte form is SHORT past 8 times the length
-abbrev pub bytes_refusal : List ℕ → ℕ → ℕ
+abbrev pub bytes_refusal : List ℕ → ℕ → Owed
 bytes_refusal bytes n = when (ltb (8 * length bytes) n) SHORT accepted
 
 -- the 16 check bits of data: register from all ones, complemented, most significant bit first

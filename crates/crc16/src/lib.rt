@@ -8,7 +8,7 @@ ghost use Rattle.base.specs.Refusal.{valued};
 ghost use Rattle.base.specs.Places.{tabulate};
 ghost use Rattle.crc16.specs.Crc.{step, register, bit_of, bytes_refusal};
 
-use base::{SHORT, Valued};
+use base::Refusal;
 
 // The generator without its top term.
 pub const GEN_POLY: u16 = 0x1021;
@@ -37,16 +37,8 @@ fn get_nth_bit(input: &[u8], bit: usize) -> u8
 pub fn crc16_itut_bits(crc: u16, input: &[u8], number_bits: usize) -> u16
     ensures { result ≡ register crc (take number_bits input.now) }
 {
-    let mut reg = crc;
-    let mut i: usize = 0;
-    while i < number_bits {
-        if input.len() <= i {
-            return reg;
-        }
-        reg = add_bit(reg, input[i]);
-        i += 1;
-    }
-    reg
+    let bits = &input[..number_bits.min(input.len())];
+    bits.iter().fold(crc, |reg, b| add_bit(reg, *b))
 }
 
 // The register after the first number_bits bits of packed bytes that hold as many.
@@ -55,24 +47,22 @@ fn packed_bits(crc: u16, input: &[u8], number_bits: usize) -> u16
     ensures { result ≡ register crc (tabulate (bit_of input.now) number_bits) }
 {
     let mut reg = crc;
-    let mut i: usize = 0;
-    while i < number_bits {
+    for i in 0..number_bits {
         reg = add_bit(reg, get_nth_bit(input, i));
-        i += 1;
     }
     reg
 }
 
 // The register after the first number_bits bits of packed bytes, the most significant of each first; SHORT past their end.
-pub fn crc16_itut_bytes(crc: u16, input: &[u8], number_bits: usize) -> Valued
+pub fn crc16_itut_bytes(crc: u16, input: &[u8], number_bits: usize) -> Result<u16, Refusal>
     ensures { result ≡ valued (bytes_refusal input.now number_bits) (register crc (tabulate (bit_of input.now) number_bits)) }
 {
     // Eight times the length need not fit, so the bytes that are needed are counted instead.
     let needed = number_bits / 8 + (number_bits % 8 + 7) / 8;
     if input.len() < needed {
-        return Valued::Refused(SHORT);
+        return Err(Refusal::Short);
     }
-    Valued::Value(packed_bits(crc, input, number_bits) as usize)
+    Ok(packed_bits(crc, input, number_bits))
 }
 
 // The register that TETRA starts at 0xffff, after the first len entries.

@@ -3,7 +3,9 @@ use Prim.Native.Nat.{ℕ, ◌-◌}
 use mathlib.Core.Path.{◌≡◌, refl, ap, ◌∙◌}
 use mathlib.Core.List.{List}
 use native.Mathlib.Omega.{arith}
-use lib.ListN.{take, set, length-set}
+use lib.ListN.{set, length-set}
+use lib.Seq.{take-length}
+use Rattle.crc16.specs.Crc.{register}
 use Rattle.base.specs.Places.{tabulate, written}
 use Rattle.base.proofs.Lists.{write_more}
 use Rattle.crc16.proofs.Checks.{check_bit, check_tabulate}
@@ -31,4 +33,4 @@ returns c =
     let e : l.i ≡ 16 = omega arith in
     l.invariant.2 ∙ ap (λ (i : ℕ). written (tabulate (check_bit (0xffff - r.result)) i) a.target.now) e
     ∙ ap (λ (s : List ℕ). written s a.target.now)
-    (check_tabulate (take a.number_bits a.input.now) (0xffff - r.result) (ap (λ (x : ℕ). 0xffff - x) r.ensures))
+    (check_tabulate a.input.now (0xffff - r.result) (ap (λ (x : ℕ). 0xffff - x) (r.ensures ∙ ap (register 0xffff) (take-length a.input.now))))
