@@ -8,8 +8,7 @@ use native.Mathlib.Omega.{arith}
 use lib.Bits.{bit_xor}
 use lib.ListN.{length, drop, get_or}
 use lib.Seq.{get_or-append-add, get_or-drop, take-length}
-use Rattle.base.specs.Refusal.{BIT, unless, outcome}
-use Rattle.base.specs.declared.Outcome.TheVariants.{Done, Refused}
+use Rattle.base.specs.Refusal.{BIT, accepted, unless}
 use Rattle.base.specs.Bits.{Bits, bits_only, ERASED, disagrees}
 use Rattle.base.specs.Places.{tabulate, written}
 use Rattle.base.proofs.Lists.{tabulate_length, tabulate_at, tabulate_same, tabulate_of}
@@ -105,9 +104,9 @@ descrambled_scrambled x b p =
     ap (descrambled x) (sym (descrambled_bits x b p)) ∙ descrambled_twice x b ∙ descrambled_zero b p
 
 -- ---- the sending form's answers
-pub send_refused : (x : ℕ) (b : List ℕ) → bits_only (length b) b ≡ false → (Refused BIT ≡ outcome (send_refusal b)) × (b ≡ unless (send_refusal b) (scrambled x b) b)
+pub send_refused : (x : ℕ) (b : List ℕ) → bits_only (length b) b ≡ false → (BIT ≡ send_refusal b) × (b ≡ unless (send_refusal b) (scrambled x b) b)
 send_refused x b e = rw e (refl, refl)
 
 pub send_done : (x : ℕ) (b : List ℕ) → bits_only (length b) b ≡ true
-    → (Done ≡ outcome (send_refusal b)) × (descrambled x b ≡ unless (send_refusal b) (scrambled x b) b)
+    → (accepted ≡ send_refusal b) × (descrambled x b ≡ unless (send_refusal b) (scrambled x b) b)
 send_done x b e = rw e (refl, descrambled_bits x b (subst Bits (take-length b) (bits_only_bits (length b) b e)))

@@ -2,7 +2,7 @@
 -- Assumes nothing.
 use mathlib.Core.List.{List, [], ◌∷◌, foldr}
 use Rattle.std.specs.Prelude.{not, ℕ, zero, suc, ◌+◌, ◌*◌, ◌/◌, ◌%◌, ◌^◌, ltb, length, get_or}
-use Rattle.base.specs.Refusal.{BIT, FIELD, accepted, when}
+use Rattle.base.specs.Refusal.{Owed, BIT, FIELD, accepted, when}
 use Rattle.base.specs.Bits.{bits_only, ERASED}
 use Rattle.base.specs.Places.{tabulate}
 
@@ -25,7 +25,7 @@ output x (suc i) = output (next x) i
 
 -- ---- the start value
 -- FIELD where mcc is over 1,023, mnc over 16,383 or colour over 63
-abbrev pub field_refusal : ℕ → ℕ → ℕ → ℕ
+abbrev pub field_refusal : ℕ → ℕ → ℕ → Owed
 field_refusal mcc mnc colour =
     when (ltb 1023 mcc) FIELD (when (ltb 16383 mnc) FIELD (when (ltb 63 colour) FIELD accepted))
 
@@ -40,7 +40,7 @@ abbrev pub scrambled : ℕ → List ℕ → List ℕ
 scrambled x block = tabulate (λ i. (get_or block i 0 + output x i) % 2) (length block)
 
 -- BIT where an entry of the block is no bit
-abbrev pub send_refusal : List ℕ → ℕ
+abbrev pub send_refusal : List ℕ → Owed
 send_refusal block = when (not (bits_only (length block) block)) BIT accepted
 
 -- receiving does the same to 0 and 1, and turns every other byte to an erasure

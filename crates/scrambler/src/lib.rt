@@ -10,7 +10,7 @@ ghost use Rattle.scrambler.specs.Scrambling.{output, field_refusal, start_value,
 ghost use Rattle.scrambler.specs.private.Scrambling.{nexts};
 ghost use Rattle.scrambler.specs.private.Fours.{Spreads, Taken, Begun};
 
-use base::{BIT, FIELD, Valued};
+use base::Refusal;
 
 // The start value of the synchronization channel, BSCH.
 pub const SCRAMB_INIT: u32 = 3;
@@ -106,11 +106,9 @@ pub fn tetra_scramb_get_bits(lfsr_init: u32, out: &mut [u8])
     ensures { out.new ≡ tabulate (output lfsr_init) (length out.old) }
 {
     let mut lfsr = lfsr_init;
-    let mut i: usize = 0;
-    while i < out.len() {
+    for i in 0..out.len() {
         lfsr = register_at(lfsr, i);
         out[i] = output_at(lfsr, i);
-        i += 1;
     }
 }
 
@@ -119,10 +117,8 @@ fn descramble_four(outputs: [u8; 4], block: &mut [u8], at: usize)
     requires { ((e : ℕ) → e < 4 → get_or outputs e 0 < 2) × (at + 4 ≤ length block.old) }
     ensures { Taken outputs 4 at block.old block.new }
 {
-    let mut e: usize = 0;
-    while e < 4 {
+    for e in 0..4 {
         block[at + e] = descramble_symbol(block[at + e], outputs[e]);
-        e += 1;
     }
 }
 
@@ -146,43 +142,40 @@ pub fn tetra_descramb_bits(lfsr_init: u32, block: &mut [u8])
     ensures { block.new ≡ descrambled lfsr_init block.old }
 {
     let mut lfsr = descramble_fours(lfsr_init, block);
-    let mut i = block.len() / 4 * 4;
-    while i < block.len() {
+    for i in block.len() / 4 * 4..block.len() {
         lfsr = register_at(lfsr, i);
         block[i] = descramble_symbol(block[i], output_at(lfsr, i));
-        i += 1;
     }
 }
 
 // Sending: a block of bits scrambled. BIT, and nothing is changed, where an entry is no bit.
-pub fn tetra_scramb_bits(lfsr_init: u32, block: &mut [u8]) -> base::Outcome
+pub fn tetra_scramb_bits(lfsr_init: u32, block: &mut [u8]) -> Result<(), Refusal>
     ensures { Leaves (send_refusal block.old) (scrambled lfsr_init block.old) block.old block.new result }
 {
-    let n = block.len();
-    if base::inner::bits_only(block, n) {
+    if base::inner::bits_only(block) {
         tetra_descramb_bits(lfsr_init, block);
-        base::Outcome::Done
+        Ok(())
     } else {
-        base::Outcome::Refused(BIT)
+        Err(Refusal::Bit)
     }
 }
 
 // The start value of a cell's country code, network code and colour code; FIELD where one does not fit its field.
-pub fn tetra_scramb_get_init(mcc: u16, mnc: u16, colour: u8) -> Valued
+pub fn tetra_scramb_get_init(mcc: u16, mnc: u16, colour: u8) -> Result<u32, Refusal>
     ensures { result ≡ valued (field_refusal mcc mnc colour) (start_value mcc mnc colour) }
 {
     if 1023 < mcc {
-        return Valued::Refused(FIELD);
+        return Err(Refusal::Field);
     }
     if 16383 < mnc {
-        return Valued::Refused(FIELD);
+        return Err(Refusal::Field);
     }
     if 63 < colour {
-        return Valued::Refused(FIELD);
+        return Err(Refusal::Field);
     }
     if colour == 0 {
-        return Valued::Value(0);
+        return Ok(0);
     }
     let start = 4 * (colour as u32 + 64 * mnc as u32 + 0x10_0000 * mcc as u32) + SCRAMB_INIT;
-    Valued::Value(start as usize)
+    Ok(start)
 }

@@ -5,6 +5,3 @@ use Rattle.scrambler.proofs.descramble_four.Given as goal
 
 abbrev pub invariant-loop-e : goal.invariant-loop-e
 invariant-loop-e l = (l.e ≤ 4) × Taken l.outputs l.e l.at l.initial.block l.block
-
-abbrev pub decreases-loop-e : goal.decreases-loop-e
-decreases-loop-e l = 4 - l.e

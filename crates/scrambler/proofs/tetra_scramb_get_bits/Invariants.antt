@@ -11,6 +11,3 @@ use Rattle.scrambler.proofs.tetra_scramb_get_bits.Given as goal
 abbrev pub invariant-loop-i : goal.invariant-loop-i
 invariant-loop-i l =
     (l.i ≤ length l.initial.out) × (length l.out ≡ length l.initial.out) × (l.lfsr ≡ nexts l.lfsr_init ((l.i + 31) / 32 * 32)) × (l.out ≡ written (tabulate (output l.lfsr_init) l.i) l.initial.out)
-
-abbrev pub decreases-loop-i : goal.decreases-loop-i
-decreases-loop-i l = length l.initial.out - l.i
