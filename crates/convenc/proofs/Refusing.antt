@@ -1,6 +1,6 @@
 -- What a refusal says: the tests that led to it, and what holds where nothing is refused.
 -- Assumes nothing.
-use mathlib.Core.Path.{◌≡◌, refl, sym, subst}
+use mathlib.Core.Path.{◌≡◌, refl, subst}
 use mathlib.Core.List.{List, [], ◌∷◌}
 use mathlib.Core.Bool.{true, not}
 use Prim.Native.Nat.{ℕ, ◌*◌, ◌≤◌, ◌<◌}
@@ -10,17 +10,12 @@ use lib.Dec.{ltb}
 use lib.ListN.{length}
 use lib.Seq.{take-length}
 use borrow.Author.Tests.{ltb-false, not-false, le-ltb}
-use Rattle.std.specs.Prelude.{Err}
 use Rattle.base.specs.Bits.{Bits, bits_only}
-use Rattle.base.specs.declared.Refusal.{Refusal}
 use Rattle.base.specs.declared.Refusal.TheVariants as refusals
 use Rattle.base.specs.Refusal.{LIMIT, ROOM, BIT, accepted, when}
 use Rattle.base.proofs.BitLaws.{bits_only_bits}
-use Rattle.base.proofs.Refusals.{refused, passed}
-use Rattle.base.specs.Places.{written}
-use Rattle.trellis.specs.Nearest.{encode}
-use Rattle.base.specs.Digits.{number}
-use Rattle.convenc.specs.Generators.{encode_refusal, outputs, delays, Encoded}
+use Rattle.base.proofs.Refusals.{passed}
+use Rattle.convenc.specs.Generators.{encode_refusal}
 
 -- ---- an encoder's refusal
 pub record Accepted (rate : ℕ) (d src : List ℕ) (dst : ℕ) : Type 0 where

@@ -19,12 +19,12 @@ use Rattle.base.specs.Refusal.{accepted}
 use Rattle.trellis.specs.Nearest.{encode}
 use Rattle.trellis.specs.private.Nearest.{after}
 use Rattle.base.specs.Digits.{number}
-use Rattle.convenc.specs.Generators.{outputs, delays, encode_refusal, Encoded}
+use Rattle.convenc.specs.Generators.{outputs, delays, encode_refusal}
 use Rattle.convenc.specs.private.Tapping.{taps, newest, GoesOn}
 use Rattle.trellis.proofs.Encoding.{encode_append}
 use Rattle.convenc.proofs.Encoding.{encoded_length, outputs_length}
 use Rattle.convenc.proofs.Delays.{Four, four_bits, delays_none, delays_append, four_after, held_after, newest_front, newest_more}
-use Rattle.convenc.proofs.Refusing.{accepts, encoded_done}
+use Rattle.convenc.proofs.Refusing.{accepts}
 use Rattle.convenc.proofs.Taps.{taps_outputs, proper}
 
 -- what is written goes on where it ended
