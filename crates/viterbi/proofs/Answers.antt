@@ -12,6 +12,7 @@ use mir.Syntax.{w16}
 use mir.Val.{to_z, of_z}
 use Rattle.base.specs.Bits.{disagrees, known}
 use Rattle.base.specs.Places.{written}
+use Rattle.std.specs.Prelude.{Ok, Err}
 use Rattle.base.proofs.Lists.{tabulate_length}
 use Rattle.trellis.specs.Nearest.{encode, distance, total, Candidate}
 use Rattle.trellis.specs.Walk.{before, branch}
@@ -21,7 +22,8 @@ use Rattle.trellis.proofs.Encoding.{encode_same}
 use Rattle.trellis.proofs.Winners.{nearest_same, nearest_wins}
 use Rattle.trellis.proofs.Decoder.{decode_nearest, decode_distance}
 use Rattle.convenc.specs.Generators.{outputs}
-use Rattle.base.specs.declared.Valued.TheVariants.{Value, Refused}
+use Rattle.base.specs.declared.Refusal.{Refusal}
+use Rattle.base.specs.Refusal.{accepted}
 use Rattle.viterbi.specs.Decoding.{disagreements, decoded, decode_refusal, Decodes}
 use Rattle.viterbi.specs.private.Scores.{down, Marks, Stands, mirrored, earlier, Table, told, Tells, handicap, received, Forward, walk, walk_end, Back}
 use Rattle.viterbi.specs.private.Finding.{Finds}
@@ -33,15 +35,14 @@ use Rattle.viterbi.proofs.Pass.{scores_small, knowns_le}
 
 -- ---- an answer with no refusal, and with one
 pub answered : {code : List (List ℕ)} {n : ℕ} {src target target' trellis trellis' : List ℕ} {count : ℕ}
-    → 0 ≡ decode_refusal code n (length src) (length trellis) (length target)
-    → Finds code n src target target' trellis trellis' count → Decodes code n src target target' trellis trellis' (Value count)
-answered z f = record { answers = rw (← z) (ap Value f.counts); writes = rw (← z) f.writes; clears = rw (← z) f.clears }
+    → decode_refusal code n (length src) (length trellis) (length target) ≡ accepted
+    → Finds code n src target target' trellis trellis' count → Decodes code n src target target' trellis trellis' (Ok count)
+answered z f = record { answers = rw z (ap Ok f.counts); writes = rw z f.writes; clears = rw z f.clears }
 
-pub refused : {code : List (List ℕ)} {n : ℕ} {src target trellis : List ℕ} {number : ℕ}
-    → 0 < number → number ≡ decode_refusal code n (length src) (length trellis) (length target)
-    → Decodes code n src target target trellis trellis (Refused number)
-refused {number = zero} h e = absurd (omega arith)
-refused {number = suc number} h e = record { answers = rw (← e); writes = rw (← e); clears = rw (← e) }
+pub refused : {code : List (List ℕ)} {n : ℕ} {src target trellis : List ℕ} {why : Refusal}
+    → decode_refusal code n (length src) (length trellis) (length target) ≡ Err why
+    → Decodes code n src target target trellis trellis (Err why)
+refused e = record { answers = rw e refl; writes = rw e refl; clears = rw e refl }
 
 -- ---- the walk over the choices is the trellis's own
 module _ (k : ℕ) (t : List (List ℤ)) (src trellis : List ℕ) where

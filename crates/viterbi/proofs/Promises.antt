@@ -10,7 +10,7 @@ use lib.Seq.{get_or-take, length-take-le}
 use Rattle.base.specs.Bits.{disagrees, known}
 use Rattle.base.specs.Digits.{digits, dot}
 use Rattle.base.specs.Places.{written}
-use Rattle.base.specs.Refusal.{unless}
+use Rattle.base.specs.Refusal.{Owed, accepted, unless}
 use Rattle.base.proofs.BitLaws.{bits_at}
 use Rattle.trellis.specs.Nearest.{encode, Candidate}
 use Rattle.trellis.proofs.Encoding.{distance_most, distance_take, encode_bits, encode_length}
@@ -22,7 +22,8 @@ use Rattle.air.proofs.Symbols.{disagrees_tells}
 use Rattle.air.proofs.Channel.{Weighs, Decoder, heard_right}
 use Rattle.air.proofs.Hard.{Any, hard_lawful}
 use Rattle.convenc.specs.Generators.{tapped, outputs, control, speech}
-use Rattle.base.specs.declared.Valued.TheVariants.{Value}
+use Rattle.std.specs.Prelude.{Ok, Err}
+use Rattle.base.specs.declared.Refusal.{Refusal}
 use Rattle.base.specs.Refusal.{valued}
 use Rattle.viterbi.specs.Decoding.{used, disagreements, decoded, unerased, decode_refusal}
 use Rattle.viterbi.specs.Hearing.{mother_code, AnsweredWord}
@@ -51,18 +52,18 @@ mother_weighs code n src room w e =
     long = encode_length (outputs code) (length code) (outputs_length code) 0 w ∙ ap (λ (k : ℕ). length code * k) e
 
 -- a value says that nothing was refused
-pub word_accepted : (number count least : ℕ) → Value count ≡ valued number least → (number ≡ 0) × (count ≡ least)
-word_accepted zero count least e = (refl, cc)
-word_accepted (suc number) count least e = let z : ◌≡◌ {A = ℕ} 0 1 = cc in absurd (omega arith)
+pub word_accepted : (refusal : Owed) (count least : ℕ) → Ok count ≡ valued refusal least → (refusal ≡ accepted) × (count ≡ least)
+word_accepted (Ok tt) count least e = (refl, cc)
+word_accepted (Err why) count least e = absurd cc
 
 -- what a call that answered a value says of its input
 module _ {code : List (List ℕ)} {n : ℕ} {src : List ℕ} {count : ℕ} {target target' : List ℕ} (u : AnsweredWord code n src count target target') where
-  said : (decode_refusal code n (length src) (length u.trellis) (length target) ≡ 0) × (count ≡ disagreements code n src (decoded code n src))
+  said : (decode_refusal code n (length src) (length u.trellis) (length target) ≡ accepted) × (count ≡ disagreements code n src (decoded code n src))
   said =
       word_accepted (decode_refusal code n (length src) (length u.trellis) (length target)) count (disagreements code n src (decoded code n src)) u.call.answers
 
   enough : length code * n ≤ length src
-  enough = (accepts n (length src) (length u.trellis) (length target) code (sym said.0)).1
+  enough = (accepts n (length src) (length u.trellis) (length target) code said.0).1
 
   -- the walk back ends in state 0, gives the word, and its score is the count
   pub answered_walks_back : WalksBack code n src
@@ -75,7 +76,7 @@ decoder code n =
           (λ w j h. bits_at (encode (outputs code) 0 w) (encode_bits (outputs code) (outputs_bits code) 0 w) j);
       fits = λ src count target target' u j h. tt;
       weighs = λ src count target target' u. mother_weighs code n src (enough u);
-      writes = λ src count target target' u. u.call.writes ∙ ap (λ (k : ℕ). unless k (written (decoded code n src) target) target) (said u).0;
+      writes = λ src count target target' u. u.call.writes ∙ ap (λ (k : Owed). unless k (written (decoded code n src) target) target) (said u).0;
       counts = λ src count target target' u. (said u).1;
     }
 

@@ -1,19 +1,20 @@
 -- What no refusal says.
 -- Assumes nothing.
-use mathlib.Core.Path.{◌≡◌, sym}
+use mathlib.Core.Path.{◌≡◌}
 use mathlib.Core.List.{List}
 use Prim.Native.Nat.{ℕ, zero, suc, ◌*◌, ◌≤◌, ◌<◌}
 use native.Mathlib.Omega.{arith}
 use borrow.Author.Tests.{ltb-false}
 use lib.Dec.{ltb}
 use lib.ListN.{length}
+use Rattle.base.specs.Refusal.{accepted}
 use Rattle.base.proofs.Refusals.{passed}
 use Rattle.viterbi.specs.Decoding.{decode_refusal}
 
-pub accepts : (n src trellis dst : ℕ) (code : List (List ℕ)) → 0 ≡ decode_refusal code n src trellis dst
+pub accepts : (n src trellis dst : ℕ) (code : List (List ℕ)) → decode_refusal code n src trellis dst ≡ accepted
     → (n ≤ 864) × (length code * n ≤ src) × (n ≤ trellis) × (n ≤ dst)
 accepts n src trellis dst code e =
-    let a = passed (ltb 864 n) _ _ (sym e) in
+    let a = passed (ltb 864 n) _ _ e in
     let b = passed (ltb src (length code * n)) _ _ a.1 in
     let c = passed (ltb trellis n) _ _ b.1 in
     let d = passed (ltb dst n) _ _ c.1 in

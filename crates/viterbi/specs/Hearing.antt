@@ -1,10 +1,9 @@
 -- The decoders as receivers: a word is sent as its encoding from the zero state, symbol by symbol.
 -- Assumes nothing.
-use Rattle.std.specs.Prelude.{List, ℕ, ◌*◌, length, get_or}
+use Rattle.std.specs.Prelude.{Ok, List, ℕ, ◌*◌, length, get_or}
 use Rattle.trellis.specs.Nearest.{encode}
 use Rattle.convenc.specs.Generators.{outputs}
 use Rattle.air.specs.Channel.{Channel, hard}
-use Rattle.base.specs.declared.Valued.TheVariants.{Value}
 use Rattle.viterbi.specs.Decoding.{Decodes}
 
 abbrev pub mother_code : List (List ℕ) → ℕ → Channel (List ℕ) ℕ
@@ -14,4 +13,4 @@ mother_code code n = hard n (length code * n) (λ j. j) (λ w x. get_or (encode 
 pub record AnsweredWord (code : List (List ℕ)) (n : ℕ) (src : List ℕ) (count : ℕ) (target target' : List ℕ) : Type 0 where
   pub trellis : List ℕ
   pub trellis' : List ℕ
-  pub call : Decodes code n src target target' trellis trellis' (Value count)
+  pub call : Decodes code n src target target' trellis trellis' (Ok count)

@@ -9,7 +9,7 @@ ghost use Rattle.viterbi.specs.Decoding.{decode_refusal};
 ghost use Rattle.viterbi.specs.private.Scores.{Sixteen, Holds, Marks, Small, Trit, Trits, Stands, Table, Tells, Rows, class_of, Classes, branch_of, first_way, second_way, better, oldest, Turned, Forward, walk_end, Back, down};
 ghost use Rattle.viterbi.specs.private.Finding.{Finds};
 
-use base::{LIMIT, ROOM, SHORT};
+use base::Refusal;
 
 // Rows of expected bits, -1 for 0 and 1 for 1, at each state, its newest bit lowest, when the bit before the state's four was 0
 // (EN 300 392-2, 8.2.3.1.1).
@@ -259,24 +259,24 @@ fn cost(z: i16, symbols: usize) -> usize
     twice as usize / 2
 }
 
-// The number of the refusal, or 0, of n steps of k symbols.
-pub fn refusal(k: usize, n: usize, source: usize, trellis: usize, target: usize) -> u8
+// What is refused of n steps of k symbols.
+pub fn refusal(k: usize, n: usize, source: usize, trellis: usize, target: usize) -> Result<(), Refusal>
     requires { k < 5 }
     ensures { (code : List (List ℕ)) → length code ≡ k → result ≡ decode_refusal code n source trellis target }
 {
     if 864 < n {
-        return LIMIT;
+        return Err(Refusal::Limit);
     }
     if source < k * n {
-        return SHORT;
+        return Err(Refusal::Short);
     }
     if trellis < n {
-        return ROOM;
+        return Err(Refusal::Room);
     }
     if target < n {
-        return ROOM;
+        return Err(Refusal::Room);
     }
-    0
+    Ok(())
 }
 
 // The decoder where nothing is refused: the disagreements of the word that it writes.

@@ -1,24 +1,17 @@
-use mathlib.Core.Path.{refl}
-use native.Mathlib.Omega.{arith}
+use mathlib.Core.Path.{refl, sym, ◌∙◌}
 use lib.ListN.{length}
 use Rattle.convenc.specs.Generators.{control}
 use Rattle.viterbi.proofs.Refusals.{accepts}
 use Rattle.viterbi.proofs.Answers.{answered, refused}
 use Rattle.viterbi.proofs.dec_sb1.Goals as goal
 
-pub returns-then-refusal-ne0 : goal.returns-then-refusal-ne0
-returns-then-refusal-ne0 c =
-    let r = c.refusal-refusal in
-    refused (omega arith) (r.ensures control refl)
+pub returns-in_err-refusal : goal.returns-in_err-refusal
+returns-in_err-refusal c = refused (sym (c.refusal.ensures control refl) ∙ c.in_err-refusal.was)
 
 pub control-requires : goal.control-requires
 control-requires c =
     let a = c.args in
-    let r = c.refusal-refusal in
-    let h = accepts a.sym_count (length a.in_buf.now) (length a.trellis.now) (length a.out_buf.now) control (omega (arith, r.ensures control refl)) in
-    (h.0, h.1, h.2, h.3)
+    accepts a.sym_count (length a.in_buf.now) (length a.trellis.now) (length a.out_buf.now) control (sym (c.refusal.ensures control refl) ∙ c.in_ok-refusal.was)
 
 pub returns : goal.returns
-returns c =
-    let r = c.refusal-refusal in
-    answered (omega (arith, r.ensures control refl)) c.control.ensures
+returns c = answered (sym (c.refusal.ensures control refl) ∙ c.in_ok-refusal.was) c.control.ensures
