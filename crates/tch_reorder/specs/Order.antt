@@ -1,7 +1,7 @@
 -- The order of the speech bits by sensitivity class (EN 300 395-2, table 4).
 -- Assumes nothing.
 use Rattle.std.specs.Prelude.{List, [], ◌∷◌, ◌++◌, ℕ, ◌+◌, ◌-◌, ◌*◌, ◌/◌, ◌%◌, get_or}
-use Rattle.base.specs.Refusal.{accepted, sized}
+use Rattle.base.specs.Refusal.{Owed, accepted, sized}
 use Rattle.base.specs.Places.{gather, scatter}
 
 -- class 0, as positions in a subframe of 137, counted from 1
@@ -32,7 +32,7 @@ unfoldable pub codec_place : ℕ → ℕ
 codec_place x = 137 * (x % 2) + get_or order (x / 2) 0 - 1
 
 -- what is refused for src entries of source and dst of target
-abbrev pub reorder_refusal : ℕ → ℕ → ℕ
+abbrev pub reorder_refusal : ℕ → ℕ → Owed
 reorder_refusal src dst = sized src 274 dst 274 accepted
 
 -- the 274 entries in channel order

@@ -10,19 +10,19 @@ ghost use Rattle.tch_reorder.specs.Order.{reorder_refusal, channel_of, codec_of}
 
 mod classes;
 
-use base::{ROOM, SHORT};
+use base::Refusal;
 use classes::CLASS_POS;
 
-fn refusal(source: usize, target: usize) -> u8
+fn reorder_refusal(source: usize, target: usize) -> Result<(), Refusal>
     ensures { result ≡ reorder_refusal source target }
 {
     if source < 274 {
-        return SHORT;
+        return Err(Refusal::Short);
     }
     if target < 274 {
-        return ROOM;
+        return Err(Refusal::Room);
     }
-    0
+    Ok(())
 }
 
 // For each position in table order subframe 0's entry, then subframe 1's.
@@ -30,13 +30,10 @@ fn to_channel(codec: &[u8], channel: &mut [u8])
     requires { (274 ≤ length codec.now) × (274 ≤ length channel.old) }
     ensures { channel.new ≡ written (channel_of codec.now) channel.old }
 {
-    let positions = CLASS_POS;
-    let mut out_idx: usize = 0;
-    while out_idx < 274 {
-        let at = positions[out_idx / 2] as usize - 1;
-        channel[out_idx] = codec[at];
-        channel[out_idx + 1] = codec[137 + at];
-        out_idx += 2;
+    for (i, position) in CLASS_POS.iter().enumerate() {
+        let at = *position as usize - 1;
+        channel[2 * i] = codec[at];
+        channel[2 * i + 1] = codec[137 + at];
     }
 }
 
@@ -44,38 +41,29 @@ fn to_codec(channel: &[u8], codec: &mut [u8])
     requires { (274 ≤ length channel.now) × (274 ≤ length codec.old) }
     ensures { codec.new ≡ codec_of channel.now codec.old }
 {
-    let positions = CLASS_POS;
-    let mut in_idx: usize = 0;
-    while in_idx < 274 {
-        let at = positions[in_idx / 2] as usize - 1;
-        codec[at] = channel[in_idx];
-        codec[137 + at] = channel[in_idx + 1];
-        in_idx += 2;
+    for (i, position) in CLASS_POS.iter().enumerate() {
+        let at = *position as usize - 1;
+        codec[at] = channel[2 * i];
+        codec[137 + at] = channel[2 * i + 1];
     }
 }
 
 // The 274 entries of a speech frame, put from codec order into channel order.
-pub fn codec_to_channel(codec: &[u8], channel: &mut [u8]) -> base::Outcome
+pub fn codec_to_channel(codec: &[u8], channel: &mut [u8]) -> Result<(), Refusal>
     ensures { Leaves (reorder_refusal (length codec.now) (length channel.old))
         (written (channel_of codec.now) channel.old) channel.old channel.new result }
 {
-    let refused = refusal(codec.len(), channel.len());
-    if refused != 0 {
-        return base::Outcome::Refused(refused);
-    }
+    reorder_refusal(codec.len(), channel.len())?;
     to_channel(codec, channel);
-    base::Outcome::Done
+    Ok(())
 }
 
 // The 274 entries of a speech frame, put from channel order into codec order.
-pub fn channel_to_codec(channel: &[u8], codec: &mut [u8]) -> base::Outcome
+pub fn channel_to_codec(channel: &[u8], codec: &mut [u8]) -> Result<(), Refusal>
     ensures { Leaves (reorder_refusal (length channel.now) (length codec.old))
         (codec_of channel.now codec.old) codec.old codec.new result }
 {
-    let refused = refusal(channel.len(), codec.len());
-    if refused != 0 {
-        return base::Outcome::Refused(refused);
-    }
+    reorder_refusal(channel.len(), codec.len())?;
     to_codec(channel, codec);
-    base::Outcome::Done
+    Ok(())
 }

@@ -1,5 +1,5 @@
 -- The symbols from `at` to `at + e` have their outputs taken off.
-use Prim.Native.Nat.{◌-◌, ◌≤◌}
+use Prim.Native.Nat.{◌≤◌}
 use Rattle.scrambler.specs.private.Fours.{Taken}
 use Rattle.scrambler.proofs.descramble_four.Given as goal
 

@@ -1,6 +1,6 @@
 -- The register has shifted past the thirty-two outputs that the entry before i is among, and the first i outputs stand over the front
 -- of the slice.
-use Prim.Native.Nat.{◌+◌, ◌*◌, ◌/◌, ◌≤◌, ◌-◌}
+use Prim.Native.Nat.{◌+◌, ◌*◌, ◌/◌, ◌≤◌}
 use mathlib.Core.Path.{◌≡◌}
 use lib.ListN.{length}
 use Rattle.base.specs.Places.{tabulate, written}

@@ -1,26 +1,23 @@
-use mathlib.Core.Path.{refl}
-use Prim.Native.Nat.{◌/◌}
 use native.Mathlib.Omega.{arith}
-use lib.ListN.{length-set}
 use Rattle.base.proofs.Lists.{write_none}
 use Rattle.tch_reorder.specs.Order.{order}
 use Rattle.tch_reorder.proofs.Laws.{position_low, position_high, channel_more}
 use Rattle.tch_reorder.proofs.to_channel.Goals as goal
 
-pub loop-out_idx-init : goal.loop-out_idx-init
-loop-out_idx-init c = (omega arith, refl, refl, write_none _ _)
+pub loop-i-init : goal.loop-i-init
+loop-i-init c = write_none _ _
 
 pub overflow_sub-at : goal.overflow_sub-at
 unfolding order
-overflow_sub-at c = omega (arith, position_low (c.loop-out_idx.out_idx / 2) (omega arith))
+overflow_sub-at c = omega (arith, position_low c.loop-i.i (omega arith))
 
-pub bounds-codec-at-in-loop-out_idx : goal.bounds-codec-at-in-loop-out_idx
+pub bounds-codec-at-in-loop-i : goal.bounds-codec-at-in-loop-i
 unfolding order
-bounds-codec-at-in-loop-out_idx c = omega (arith, position_high (c.loop-out_idx.out_idx / 2) (omega arith))
+bounds-codec-at-in-loop-i c = omega (arith, position_high c.loop-i.i (omega arith))
 
-pub loop-out_idx-preserved : goal.loop-out_idx-preserved
+pub loop-i-preserved : goal.loop-i-preserved
 unfolding order
-loop-out_idx-preserved c =
-    let l = c.loop-out_idx in
+loop-i-preserved c =
+    let l = c.loop-i in
     let a = c.args in
-    (omega arith, omega arith, simp length-set l.invariant.2, channel_more l.out_idx l.invariant.1 (omega arith) a.codec.now a.channel.now l.channel l.invariant.3 (omega arith))
+    channel_more l.i (omega arith) a.codec.now a.channel.now l.channel l.invariant c.requires.1

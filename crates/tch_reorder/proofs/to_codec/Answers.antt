@@ -1,5 +1,3 @@
-use mathlib.Core.Path.{refl}
-use Prim.Native.Nat.{◌/◌}
 use native.Mathlib.Omega.{arith}
 use lib.ListN.{length-set}
 use Rattle.base.proofs.Moves.{scatter_none}
@@ -7,20 +5,20 @@ use Rattle.tch_reorder.specs.Order.{order}
 use Rattle.tch_reorder.proofs.Laws.{position_low, position_high, codec_more}
 use Rattle.tch_reorder.proofs.to_codec.Goals as goal
 
-pub loop-in_idx-init : goal.loop-in_idx-init
-loop-in_idx-init c = (omega arith, refl, refl, scatter_none _ _ _)
+pub loop-i-init : goal.loop-i-init
+loop-i-init c = scatter_none _ _ _
 
 pub overflow_sub-at : goal.overflow_sub-at
 unfolding order
-overflow_sub-at c = omega (arith, position_low (c.loop-in_idx.in_idx / 2) (omega arith))
+overflow_sub-at c = omega (arith, position_low c.loop-i.i (omega arith))
 
-pub bounds-codec-at-in-loop-in_idx : goal.bounds-codec-at-in-loop-in_idx
+pub bounds-codec-at-in-loop-i : goal.bounds-codec-at-in-loop-i
 unfolding order
-bounds-codec-at-in-loop-in_idx c = simp length-set (omega (arith, position_high (c.loop-in_idx.in_idx / 2) (omega arith)))
+bounds-codec-at-in-loop-i c = simp length-set (omega (arith, position_high c.loop-i.i (omega arith)))
 
-pub loop-in_idx-preserved : goal.loop-in_idx-preserved
+pub loop-i-preserved : goal.loop-i-preserved
 unfolding order
-loop-in_idx-preserved c =
-    let l = c.loop-in_idx in
+loop-i-preserved c =
+    let l = c.loop-i in
     let a = c.args in
-    (omega arith, omega arith, simp length-set l.invariant.2, codec_more l.in_idx l.invariant.1 (omega arith) a.channel.now a.codec.now l.codec l.invariant.3)
+    codec_more l.i (omega arith) a.channel.now a.codec.now l.codec l.invariant
