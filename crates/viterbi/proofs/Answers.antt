@@ -12,7 +12,7 @@ use mir.Syntax.{w16}
 use mir.Val.{to_z, of_z}
 use Rattle.base.specs.Bits.{disagrees, known}
 use Rattle.base.specs.Places.{written}
-use Rattle.std.specs.Prelude.{Ok, Err}
+use Rattle.std.specs.Prelude.{Result, Ok, Err}
 use Rattle.base.proofs.Lists.{tabulate_length}
 use Rattle.trellis.specs.Nearest.{encode, distance, total, Candidate}
 use Rattle.trellis.specs.Walk.{before, branch}
@@ -39,10 +39,10 @@ pub answered : {code : List (List ℕ)} {n : ℕ} {src target target' trellis tr
     → Finds code n src target target' trellis trellis' count → Decodes code n src target target' trellis trellis' (Ok count)
 answered z f = record { answers = rw z (ap Ok f.counts); writes = rw z f.writes; clears = rw z f.clears }
 
-pub refused : {code : List (List ℕ)} {n : ℕ} {src target trellis : List ℕ} {why : Refusal}
-    → decode_refusal code n (length src) (length trellis) (length target) ≡ Err why
-    → Decodes code n src target target trellis trellis (Err why)
-refused e = record { answers = rw e refl; writes = rw e refl; clears = rw e refl }
+pub refused : {code : List (List ℕ)} {n : ℕ} {src target trellis : List ℕ} {why : Refusal} {r : Result ℕ Refusal}
+    → decode_refusal code n (length src) (length trellis) (length target) ≡ Err why → r ≡ Err why
+    → Decodes code n src target target trellis trellis r
+refused e z = record { answers = rw (e, z) refl; writes = rw e refl; clears = rw e refl }
 
 -- ---- the walk over the choices is the trellis's own
 module _ (k : ℕ) (t : List (List ℤ)) (src trellis : List ℕ) where

@@ -23,7 +23,6 @@ use Rattle.air.proofs.Channel.{Weighs, Decoder, heard_right}
 use Rattle.air.proofs.Hard.{Any, hard_lawful}
 use Rattle.convenc.specs.Generators.{tapped, outputs, control, speech}
 use Rattle.std.specs.Prelude.{Ok, Err}
-use Rattle.base.specs.declared.Refusal.{Refusal}
 use Rattle.base.specs.Refusal.{valued}
 use Rattle.viterbi.specs.Decoding.{used, disagreements, decoded, unerased, decode_refusal}
 use Rattle.viterbi.specs.Hearing.{mother_code, AnsweredWord}

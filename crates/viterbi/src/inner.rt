@@ -260,7 +260,13 @@ fn cost(z: i16, symbols: usize) -> usize
 }
 
 // What is refused of n steps of k symbols.
-pub fn refusal(k: usize, n: usize, source: usize, trellis: usize, target: usize) -> Result<(), Refusal>
+pub fn refusal(
+    k: usize,
+    n: usize,
+    source: usize,
+    trellis: usize,
+    target: usize,
+) -> Result<(), Refusal>
     requires { k < 5 }
     ensures { (code : List (List ℕ)) → length code ≡ k → result ≡ decode_refusal code n source trellis target }
 {

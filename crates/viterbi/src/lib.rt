@@ -12,7 +12,12 @@ pub mod inner;
 
 // Decodes sym_count steps of four control symbols each: 0 and 1 are bits, every other byte is an erasure. The value is the
 // number of disagreements of the word that was written.
-pub fn dec_sb1(in_buf: &[u8], out_buf: &mut [u8], sym_count: usize, trellis: &mut [u16]) -> Result<usize, Refusal>
+pub fn dec_sb1(
+    in_buf: &[u8],
+    out_buf: &mut [u8],
+    sym_count: usize,
+    trellis: &mut [u16],
+) -> Result<usize, Refusal>
     ensures { Decodes control sym_count in_buf.now out_buf.old out_buf.new
         trellis.old trellis.new result }
 {

@@ -1,12 +1,17 @@
-use mathlib.Core.Path.{refl, sym, ◌∙◌}
+use mathlib.Core.Path.{◌≡◌, refl, sym, ◌∙◌}
 use lib.ListN.{length}
+use Rattle.std.specs.Prelude.{Result, Err, ℕ}
+use Rattle.std.proofs.Common.{rules}
+use Rattle.base.specs.declared.Refusal.{Refusal}
 use Rattle.convenc.specs.Generators.{control}
 use Rattle.viterbi.proofs.Refusals.{accepts}
 use Rattle.viterbi.proofs.Answers.{answered, refused}
 use Rattle.viterbi.proofs.dec_sb1.Goals as goal
 
 pub returns-in_err-refusal : goal.returns-in_err-refusal
-returns-in_err-refusal c = refused (sym (c.refusal.ensures control refl) ∙ c.in_err-refusal.was)
+returns-in_err-refusal c =
+    let e : ◌≡◌ {A = Result ℕ Refusal} c.from_residual.result (Err c.in_err-refusal.field-0.0) = search rules in
+    refused (sym (c.refusal.ensures control refl) ∙ c.in_err-refusal.was) e
 
 pub control-requires : goal.control-requires
 control-requires c =
