@@ -5,7 +5,6 @@ use mathlib.Core.List.{List, [], ◌∷◌}
 use Prim.Native.Nat.{ℕ, zero, suc, ◌+◌, ◌-◌, ◌*◌, ◌%◌, ◌≤◌, ◌<◌}
 use native.Mathlib.Nat.{add_assoc, zero-add, one-mul}
 use native.Mathlib.Omega.{arith}
-use native.Mathlib.Numerals.{add-one}
 use lib.Bits.{bit_xor}
 use lib.ListN.{length, drop, get_or, replicate, length-drop}
 use lib.Seq.{drop-cons}
@@ -61,17 +60,19 @@ module _ (a b c d e f g x : ℕ) where
   unfolding divided
   divided_once n w h = ap (divided n) (shifted w h)
 
-pub turn : (src : List ℕ) (i a b c d e f g : ℕ) → i < 60
-    → divided (60 - (i + 1))
-    (added 1 (b ∷ c ∷ d ∷ bit_xor e (bit_xor a (get_or src (59 - i) 0)) ∷ f ∷ g ∷ bit_xor a (get_or src (59 - i) 0) ∷ []) (drop (i + 1) (dividend (data_bits src))))
-    ≡ divided (60 - i) (added 1 (a ∷ b ∷ c ∷ d ∷ e ∷ f ∷ g ∷ []) (drop i (dividend (data_bits src))))
-turn src i a b c d e f g h =
+pub turn : (src : List ℕ) (i a b c d e f g : ℕ) → 0 < i → i ≤ 60
+    → divided (i - 1)
+    (added 1 (b ∷ c ∷ d ∷ bit_xor e (bit_xor a (get_or src (i - 1) 0)) ∷ f ∷ g ∷ bit_xor a (get_or src (i - 1) 0) ∷ []) (drop (60 - (i - 1)) (dividend (data_bits src))))
+    ≡ divided i (added 1 (a ∷ b ∷ c ∷ d ∷ e ∷ f ∷ g ∷ []) (drop (60 - i) (dividend (data_bits src))))
+turn src i a b c d e f g more h =
     let w = dividend (data_bits src) in
+    let k = i - 1 in
     let long : length w ≡ 67 = dividend_length (data_bits src) in
-    rw add-one
-    (sym (divided_once a b c d e f g (get_or src (59 - i) 0) (60 - suc i) (drop (suc i) w) (omega (arith, length-drop (suc i) w)))
-    ∙ ap₂ (λ (k : ℕ) (l : List ℕ). divided k (added 1 (a ∷ b ∷ c ∷ d ∷ e ∷ f ∷ g ∷ []) l)) (omega arith)
-    (ap (λ (y : ℕ). y ∷ drop (suc i) w) (sym (dividend_at src i h)) ∙ sym (drop-cons w i 0 (omega arith))))
+    let here : get_or w (60 - i) 0 ≡ get_or src k 0 % 2 = dividend_at src (60 - i) (omega arith) ∙ ap (λ (n : ℕ). get_or src n 0 % 2) (omega arith) in
+    let next : suc (60 - i) ≡ 60 - k = omega arith in
+    sym (divided_once a b c d e f g (get_or src k 0) k (drop (60 - k) w) (omega (arith, length-drop (60 - k) w)))
+    ∙ ap₂ (λ (n : ℕ) (l : List ℕ). divided n (added 1 (a ∷ b ∷ c ∷ d ∷ e ∷ f ∷ g ∷ []) l)) (omega arith)
+    (ap₂ (λ (y n : ℕ). y ∷ drop n w) (sym here) (sym next) ∙ sym (drop-cons w (60 - i) 0 (omega arith)))
 
 -- ---- before the first turn and after the last
 added_zeros : (n : ℕ) (w : List ℕ) → Bits w → added 1 (replicate n 0) w ≡ w

@@ -2,13 +2,14 @@
 -- Assumes nothing.
 use mathlib.Core.Path.{◌≡◌, sym, ap, ap₂, subst, ◌∙◌}
 use mathlib.Core.List.{List, [], ◌∷◌, ◌++◌, foldr}
-use Prim.Native.Nat.{ℕ, ◌+◌, ◌-◌, ◌%◌}
+use Prim.Native.Nat.{ℕ, ◌+◌, ◌-◌, ◌%◌, ◌≤◌}
 use native.Mathlib.Omega.{arith}
 use lib.Bits.{bit_xor}
-use lib.ListN.{length, get_or}
+use lib.ListN.{length, take, get_or}
+use lib.Seq.{length-take-le, get_or-take}
 use Rattle.base.specs.Bits.{Bits}
 use Rattle.base.specs.Places.{tabulate}
-use Rattle.base.proofs.Lists.{tabulate_more, tabulate_of}
+use Rattle.base.proofs.Lists.{tabulate_more, tabulate_of, tabulate_same}
 use Rattle.base.proofs.BitLaws.{bits_at}
 use Rattle.base.proofs.Xor.{xor_odd}
 use Rattle.speech_crc.specs.Check.{data_bits, dividend, remainder, speech_check}
@@ -31,6 +32,12 @@ parity_more s i sum e =
 
     further : (x before after : ℕ) → sum % 2 ≡ before % 2 → after ≡ before + x % 2 → (sum + x) % 2 ≡ after % 2
     further x before after p q = omega arith
+
+-- the first 60 entries' lowest bits are the data bits
+pub data_taken : (src : List ℕ) → 60 ≤ length src → tabulate (λ i. get_or (take 60 src) i 0 % 2) (length (take 60 src)) ≡ data_bits src
+data_taken src h =
+    ap (tabulate (λ i. get_or (take 60 src) i 0 % 2)) (length-take-le 60 src h)
+    ∙ tabulate_same (λ i. get_or (take 60 src) i 0 % 2) (λ i. get_or src i 0 % 2) 60 (λ i l. ap (λ (n : ℕ). n % 2) (get_or-take 60 src i 0 l))
 
 -- ---- the check from the remainder
 module _ (src left : List ℕ) (long : length left ≡ 7) (is : left ≡ remainder (data_bits src)) where

@@ -23,9 +23,8 @@ fn divide(class2: &[u8]) -> [u8; 7]
     let mut second: u8 = 0;
     let mut first: u8 = 0;
     let mut constant: u8 = 0;
-    let mut i: usize = 0;
-    while i < 60 {
-        let lead = sixth ^ class2[59 - i];
+    for i in (0..60).rev() {
+        let lead = sixth ^ class2[i];
         sixth = fifth;
         fifth = fourth;
         fourth = third;
@@ -33,7 +32,6 @@ fn divide(class2: &[u8]) -> [u8; 7]
         second = first;
         first = constant;
         constant = lead;
-        i += 1;
     }
     [
         sixth % 2,
@@ -46,16 +44,13 @@ fn divide(class2: &[u8]) -> [u8; 7]
     ]
 }
 
-// The sum mod 2 of the lowest bits of the first n entries.
-fn parity(s: &[u8], n: usize) -> u8
-    requires { n ≤ length s.now }
-    ensures { result ≡ foldr ◌+◌ 0 (tabulate (λ i. get_or s.now i 0 % 2) n) % 2 }
+// The sum mod 2 of the entries' lowest bits.
+fn parity(s: &[u8]) -> u8
+    ensures { result ≡ foldr ◌+◌ 0 (tabulate (λ i. get_or s.now i 0 % 2) (length s.now)) % 2 }
 {
     let mut sum: u8 = 0;
-    let mut i: usize = 0;
-    while i < n {
-        sum ^= s[i];
-        i += 1;
+    for b in s {
+        sum ^= b;
     }
     sum % 2
 }
@@ -65,10 +60,8 @@ fn put(left: [u8; 7], last: u8, check: &mut [u8])
     requires { 8 ≤ length check.old }
     ensures { check.new ≡ written (tabulate (λ i. get_or left (6 - i) 0) 7 ++ (last ∷ [])) check.old }
 {
-    let mut i: usize = 0;
-    while i < 7 {
+    for i in 0..7 {
         check[i] = left[6 - i];
-        i += 1;
     }
     check[7] = last;
 }
@@ -79,7 +72,7 @@ fn put_check(class2: &[u8], check: &mut [u8])
     ensures { check.new ≡ written (speech_check class2.now) check.old }
 {
     let left = divide(class2);
-    let last = (parity(class2, 60) + parity(&left, 7)) % 2;
+    let last = (parity(&class2[..60]) + parity(&left)) % 2;
     put(left, last, check);
 }
 

@@ -13,13 +13,13 @@ loop-i-init c = (omega arith, turn_none c.args.class2.now)
 pub loop-i-preserved : goal.loop-i-preserved
 loop-i-preserved c =
     let l = c.loop-i in
-    (omega arith, turn c.args.class2.now l.i l.sixth l.fifth l.fourth l.third l.second l.first l.constant (omega arith) ∙ l.invariant.1)
+    (omega arith, turn c.args.class2.now l.i l.sixth l.fifth l.fourth l.third l.second l.first l.constant (omega arith) (omega arith) ∙ l.invariant.1)
 
 pub returns : goal.returns
 returns c =
     let l = c.loop-i in
     let register : List ℕ = l.sixth ∷ l.fifth ∷ l.fourth ∷ l.third ∷ l.second ∷ l.first ∷ l.constant ∷ [] in
     let src = c.args.class2.now in
-    let e : 60 ≡ l.i = omega arith in
+    let e : 0 ≡ l.i = omega arith in
     sym (turn_all src l.sixth l.fifth l.fourth l.third l.second l.first l.constant)
-    ∙ ap (λ (i : ℕ). divided (60 - i) (added 1 register (drop i (dividend (data_bits src))))) e ∙ l.invariant.1
+    ∙ ap (λ (i : ℕ). divided i (added 1 register (drop (60 - i) (dividend (data_bits src))))) e ∙ l.invariant.1

@@ -9,7 +9,4 @@ use Rattle.speech_crc.proofs.divide.Given as goal
 abbrev pub invariant-loop-i : goal.invariant-loop-i
 invariant-loop-i l =
     (l.i ≤ 60)
-    × (divided (60 - l.i) (added 1 (l.sixth ∷ l.fifth ∷ l.fourth ∷ l.third ∷ l.second ∷ l.first ∷ l.constant ∷ []) (drop l.i (dividend (data_bits l.class2)))) ≡ remainder (data_bits l.class2))
-
-abbrev pub decreases-loop-i : goal.decreases-loop-i
-decreases-loop-i l = 60 - l.i
+    × (divided l.i (added 1 (l.sixth ∷ l.fifth ∷ l.fourth ∷ l.third ∷ l.second ∷ l.first ∷ l.constant ∷ []) (drop (60 - l.i) (dividend (data_bits l.class2)))) ≡ remainder (data_bits l.class2))

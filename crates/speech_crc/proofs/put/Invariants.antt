@@ -8,6 +8,3 @@ use Rattle.speech_crc.proofs.put.Given as goal
 abbrev pub invariant-loop-i : goal.invariant-loop-i
 invariant-loop-i l =
     (l.i ≤ 7) × (length l.check ≡ length l.initial.check) × (l.check ≡ written (tabulate (λ k. get_or l.left (6 - k) 0) l.i) l.initial.check)
-
-abbrev pub decreases-loop-i : goal.decreases-loop-i
-decreases-loop-i l = 7 - l.i
