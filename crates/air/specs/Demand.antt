@@ -1,8 +1,9 @@
 -- Demand 3, for any channel and any entry that receives from it.
 -- Assumes nothing.
-use Rattle.std.specs.Prelude.{◌≡◌, Bool, List, ℕ}
+use Rattle.std.specs.Prelude.{◌≡◌, Bool, List, ℕ, Result, Ok}
 use Rattle.base.specs.declared.Counts.{Counts}
 use Rattle.base.specs.declared.Received.{Received}
+use Rattle.base.specs.declared.Refusal.{Refusal}
 use Rattle.base.specs.Refusal.{checked}
 use Rattle.base.specs.Places.{written}
 use Rattle.trellis.specs.Nearest.{Winner}
@@ -13,14 +14,14 @@ abbrev pub itself : {Air : Type 0} → Air → List ℕ → List ℕ
 itself air w = w
 
 -- a call of a receive chain that answered Good or Bad: `Receives` says what the chain answers and leaves, and the trellis is any
-pub record Unrefused {Air : Type 0} (Receives : Air → List ℕ → List ℕ → Received → List ℕ → List ℕ → Type 0)
+pub record Unrefused {Air : Type 0} (Receives : Air → List ℕ → List ℕ → Result Received Refusal → List ℕ → List ℕ → Type 0)
     (air : Air) (count : ℕ) (target target' : List ℕ) : Type 0 where
   pub good : Bool
   pub counts : Counts
   pub counted : count ≡ counts.disagreements
   pub trellis : List ℕ
   pub trellis' : List ℕ
-  pub call : Receives air target trellis (checked good counts) target' trellis'
+  pub call : Receives air target trellis (Ok (checked good counts)) target' trellis'
 
 -- A call received `air`, reported `count`, and left `target'` where `target` was. `Call` says what a call does that is not refused,
 -- and `holds` what the target is to hold for a word.
