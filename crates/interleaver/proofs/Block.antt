@@ -9,6 +9,7 @@ use native.Mathlib.Omega.{arith}
 use lib.Dec.{ltb}
 use borrow.Author.Tests.{ltb-true, ltb-false, le-ltb}
 use lib.ListN.{length, take}
+use Rattle.base.specs.declared.Refusal.TheVariants as refusals
 use Rattle.base.specs.Refusal.{LIMIT, SHORT, ROOM, SHUFFLE, accepted, when}
 use Rattle.base.specs.Places.{written, gather, scatter, Apart}
 use Rattle.base.specs.private.Places.{Within}
@@ -28,16 +29,16 @@ pub record BlockFits (k a src dst : ℕ) : Type 0 where
   pub long : k ≤ src
   pub room : k ≤ dst
 
-pub block_accepted : (k a src dst : ℕ) → block_refusal k a src dst ≡ 0 → BlockFits k a src dst
+pub block_accepted : (k a src dst : ℕ) → block_refusal k a src dst ≡ accepted → BlockFits k a src dst
 block_accepted k a src dst h =
     let room = when (ltb dst k) ROOM accepted in
     let long = when (ltb src k) SHORT room in
     let shuffle = when (shared k a) SHUFFLE long in
-    let p = passed (ltb 4096 k) 0 (when (ltb 65535 a) LIMIT shuffle) h in
-    let q = passed (ltb 65535 a) 0 shuffle p.1 in
-    let r = passed (shared k a) 4 long q.1 in
-    let s = passed (ltb src k) 1 room r.1 in
-    let t = passed (ltb dst k) 2 accepted s.1 in
+    let p = passed (ltb 4096 k) refusals.Limit (when (ltb 65535 a) LIMIT shuffle) h in
+    let q = passed (ltb 65535 a) refusals.Limit shuffle p.1 in
+    let r = passed (shared k a) refusals.Shuffle long q.1 in
+    let s = passed (ltb src k) refusals.Short room r.1 in
+    let t = passed (ltb dst k) refusals.Room accepted s.1 in
     record {
       count = ltb-false 4096 k p.0;
       number = ltb-false 65535 a q.0;
@@ -69,24 +70,30 @@ block_walk k a step i e h =
     ∙ walk_along (place k a) (a % k) (a % k) k (λ _. ap (λ (n : ℕ). n % k) (sym (mul-one a))) (λ j l. place_next k a j (omega arith)) i h
 
 -- ---- what the loops ask and leave
-pub block_ready : (k a step src dst : ℕ) → step ≡ a % k → block_refusal k a src dst ≡ 0 → Ready step step k src dst
-block_ready k a step src dst e h =
+-- the three numbers of a block's walk
+abbrev pub WalksBlock : ℕ → ℕ → ℕ → ℕ → ℕ → Type 0
+WalksBlock k a start step count = (start ≡ a % k) × (step ≡ a % k) × (count ≡ k)
+
+pub block_ready : (k a start step count src dst : ℕ) → WalksBlock k a start step count → block_refusal k a src dst ≡ accepted → Ready start step count src dst
+block_ready k a start step count src dst w h =
     let fits = block_accepted k a src dst h in
-    record {
+    rw (w.0, w.1, w.2) (record {
       small_step = omega (arith, mod-le a k, fits.number);
       small_count = fits.count;
       long = fits.long;
       room = fits.room;
-      stays = λ i l. omega (arith, block_walk k a step i e l, block_within k a i l);
-    }
+      stays = λ i l. omega (arith, block_walk k a (a % k) i refl l, block_within k a i l);
+    })
 
-pub block_spread : (k a step : ℕ) (src dst : List ℕ) → step ≡ a % k → scatter (walk step step k) k src dst ≡ interleaved k a src dst
-block_spread k a step src dst e = scatter_same (walk step step k) (place k a) k src dst (λ i l. block_walk k a step i e l)
+pub block_spread : (k a start step count : ℕ) (src dst : List ℕ) → WalksBlock k a start step count
+    → scatter (walk start step count) count src dst ≡ interleaved k a src dst
+block_spread k a start step count src dst w =
+    rw (w.0, w.1, w.2) (scatter_same (walk (a % k) (a % k) k) (place k a) k src dst (λ i l. block_walk k a (a % k) i refl l))
 
-pub block_collect : (k a step : ℕ) (src dst : List ℕ) → step ≡ a % k
-    → written (gather (walk step step k) k src) dst ≡ written (deinterleaved k a src) dst
-block_collect k a step src dst e =
-    ap (λ (l : List ℕ). written l dst) (gather_same (walk step step k) (place k a) k src (λ i l. block_walk k a step i e l))
+pub block_collect : (k a start step count : ℕ) (src dst : List ℕ) → WalksBlock k a start step count
+    → written (gather (walk start step count) count src) dst ≡ written (deinterleaved k a src) dst
+block_collect k a start step count src dst w =
+    rw (w.0, w.1, w.2) (ap (λ (l : List ℕ). written l dst) (gather_same (walk (a % k) (a % k) k) (place k a) k src (λ i l. block_walk k a (a % k) i refl l)))
 
 -- ---- a permutation where nothing is shared
 times_remainder : (x y k : ℕ) → x * (y % k) % k ≡ x * y % k
@@ -169,12 +176,12 @@ pub shuffle_given : (k a src dst : ℕ) → block_refusal k a src dst ≡ SHUFFL
 shuffle_given k a src dst h = go (ltb 4096 k) (ltb 65535 a) (shared k a) (ltb src k) (ltb dst k) refl h
   where
     go : (p q s l r : Bool) → shared k a ≡ s → when p LIMIT (when q LIMIT (when s SHUFFLE (when l SHORT (when r ROOM accepted)))) ≡ SHUFFLE → Clash (place k a) k
-    go true q s l r e h = absurd (omega arith)
-    go false true s l r e h = absurd (omega arith)
+    go true q s l r e h = absurd cc
+    go false true s l r e h = absurd cc
     go false false true l r e h = block_clash k a e
-    go false false false true r e h = absurd (omega arith)
-    go false false false false true e h = absurd (omega arith)
-    go false false false false false e h = absurd (omega arith)
+    go false false false true r e h = absurd cc
+    go false false false false true e h = absurd cc
+    go false false false false false e h = absurd cc
 
 -- and always then, where the numbers are within their limits
 pub shuffle_always : (k a src dst : ℕ) → k ≤ 4096 → a ≤ 65535 → Clash (place k a) k → block_refusal k a src dst ≡ SHUFFLE

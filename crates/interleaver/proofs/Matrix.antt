@@ -10,6 +10,7 @@ use lib.Dec.{ltb}
 use borrow.Author.Tests.{ltb-false}
 use lib.ListN.{length, take, drop, get_or, set}
 use lib.Seq.{get_or-drop}
+use Rattle.base.specs.declared.Refusal.TheVariants as refusals
 use Rattle.base.specs.Refusal.{LIMIT, SHORT, ROOM, accepted, when}
 use Rattle.base.specs.Places.{written, gather, scatter, Apart}
 use Rattle.base.specs.private.Places.{Within}
@@ -20,17 +21,17 @@ use Rattle.interleaver.specs.private.Lines.{MatrixFits, line_moved}
 use Rattle.interleaver.proofs.Walk.{spread_more}
 
 -- ---- what no refusal says
-pub matrix_accepted : (lines columns src dst : ℕ) → matrix_refusal lines columns src dst ≡ 0 → MatrixFits lines columns src dst
+pub matrix_accepted : (lines columns src dst : ℕ) → matrix_refusal lines columns src dst ≡ accepted → MatrixFits lines columns src dst
 matrix_accepted lines columns src dst h =
     let n = lines * columns in
     let room = when (ltb dst n) ROOM accepted in
     let long = when (ltb src n) SHORT room in
     let count = when (ltb 4096 n) LIMIT long in
-    let p = passed (ltb 4096 lines) 0 (when (ltb 4096 columns) LIMIT count) h in
-    let q = passed (ltb 4096 columns) 0 count p.1 in
-    let r = passed (ltb 4096 n) 0 long q.1 in
-    let s = passed (ltb src n) 1 room r.1 in
-    let t = passed (ltb dst n) 2 accepted s.1 in
+    let p = passed (ltb 4096 lines) refusals.Limit (when (ltb 4096 columns) LIMIT count) h in
+    let q = passed (ltb 4096 columns) refusals.Limit count p.1 in
+    let r = passed (ltb 4096 n) refusals.Limit long q.1 in
+    let s = passed (ltb src n) refusals.Short room r.1 in
+    let t = passed (ltb dst n) refusals.Room accepted s.1 in
     record {
       few_lines = ltb-false 4096 lines p.0;
       few_columns = ltb-false 4096 columns q.0;

@@ -33,6 +33,8 @@ fn shares(k: usize, a: usize) -> bool
     1 < divisor(k, a)
 }
 
+// ---- block
+
 fn block_refusal(k: usize, a: usize, source: usize, target: usize) -> Result<(), Refusal>
     ensures { result ≡ block_refusal k a source target }
 {
@@ -53,6 +55,101 @@ fn block_refusal(k: usize, a: usize, source: usize, target: usize) -> Result<(),
     }
     Ok(())
 }
+
+// a's remainder by k; for k 0, where nothing is moved, a itself.
+fn block_step(k: usize, a: usize) -> usize
+    ensures { result ≡ a % k }
+{
+    if k == 0 {
+        return a;
+    }
+    a % k
+}
+
+// Places found by adding: count of them from the start on, each a step further and, past the count, from the front again.
+#[derive(Clone, Copy)]
+struct Stride {
+    start: usize,
+    step: usize,
+    count: usize,
+}
+
+impl Stride {
+    // The places of k entries: the first is a step from the front.
+    fn of_block(k: usize, a: usize) -> Self
+        ensures { (result.start ≡ a % k) × (result.step ≡ a % k) × (result.count ≡ k) }
+    {
+        let step = block_step(k, a);
+        Stride {
+            start: step,
+            step,
+            count: k,
+        }
+    }
+
+    // The next place.
+    fn advance(self, at: usize) -> usize
+        requires { (self.step ≤ 65535) × (self.count ≤ 4096) × (at < self.count) }
+        ensures { result ≡ onward self.step self.count at }
+    {
+        let next = at + self.step;
+        if next < self.count {
+            return next;
+        }
+        next - self.count
+    }
+
+    // Entry i goes to place i.
+    fn spread(self, input: &[u8], output: &mut [u8])
+        requires { Ready self.start self.step self.count (length input.now) (length output.old) }
+        ensures { output.new ≡ scatter (walk self.start self.step self.count) self.count input.now output.old }
+    {
+        let mut at = self.start;
+        for i in 0..self.count {
+            output[at] = input[i];
+            at = self.advance(at);
+        }
+    }
+
+    // Entry i comes from place i.
+    fn collect(self, input: &[u8], output: &mut [u8])
+        requires { Ready self.start self.step self.count (length input.now) (length output.old) }
+        ensures { output.new ≡ written (gather (walk self.start self.step self.count) self.count input.now) output.old }
+    {
+        let mut at = self.start;
+        for i in 0..self.count {
+            output[i] = input[at];
+            at = self.advance(at);
+        }
+    }
+}
+
+// Place i of 1..k goes to 1 + (a i mod k).
+pub fn block_interleave(k: usize, a: usize, input: &[u8], output: &mut [u8]) -> Result<(), Refusal>
+    ensures { Leaves (block_refusal k a (length input.now) (length output.old))
+        (interleaved k a input.now output.old) output.old output.new result }
+{
+    block_refusal(k, a, input.len(), output.len())?;
+    Stride::of_block(k, a).spread(input, output);
+    Ok(())
+}
+
+// Place i of 1..k comes from 1 + (a i mod k).
+pub fn block_deinterleave(
+    k: usize,
+    a: usize,
+    input: &[u8],
+    output: &mut [u8],
+) -> Result<(), Refusal>
+    ensures { Leaves (block_refusal k a (length input.now) (length output.old))
+        (written (deinterleaved k a input.now) output.old) output.old output.new result }
+{
+    block_refusal(k, a, input.len(), output.len())?;
+    Stride::of_block(k, a).collect(input, output);
+    Ok(())
+}
+
+// ---- matrix
 
 fn matrix_refusal(lines: usize, columns: usize, source: usize, target: usize) -> Result<(), Refusal>
     ensures { result ≡ matrix_refusal lines columns source target }
@@ -76,122 +173,54 @@ fn matrix_refusal(lines: usize, columns: usize, source: usize, target: usize) ->
     Ok(())
 }
 
-// a's remainder by k; for k 0, where nothing is moved, a itself.
-fn block_step(k: usize, a: usize) -> usize
-    ensures { result ≡ a % k }
-{
-    if k == 0 {
-        return a;
+// Entries by lines: entry i of a line stands at line columns + i.
+#[derive(Clone, Copy)]
+struct Grid {
+    lines: usize,
+    columns: usize,
+}
+
+impl Grid {
+    // Entry i of the line goes to i lines + line.
+    fn move_line(self, line: usize, input: &[u8], output: &mut [u8])
+        requires { (line < self.lines) × MatrixFits self.lines self.columns (length input.now) (length output.old) }
+        ensures { output.new ≡ line_moved self.lines self.columns line input.now output.old }
+    {
+        let first = line * self.columns;
+        let mut at = line;
+        for i in 0..self.columns {
+            output[at] = input[first + i];
+            at += self.lines;
+        }
     }
-    a % k
-}
 
-// The next place: a step on or, past the count, from the front again.
-fn advance(step: usize, count: usize, at: usize) -> usize
-    requires { (step ≤ 65535) × (count ≤ 4096) × (at < count) }
-    ensures { result ≡ onward step count at }
-{
-    let next = at + step;
-    if next < count {
-        return next;
+    // The line and the next one, entry by entry side by side.
+    fn move_pair(self, line: usize, input: &[u8], output: &mut [u8])
+        requires { (line + 1 < self.lines) × MatrixFits self.lines self.columns (length input.now) (length output.old) }
+        ensures { output.new ≡ line_moved self.lines self.columns (line + 1) input.now
+            (line_moved self.lines self.columns line input.now output.old) }
+    {
+        let first = line * self.columns;
+        let second = first + self.columns;
+        let mut at = line;
+        for i in 0..self.columns {
+            output[at] = input[first + i];
+            output[at + 1] = input[second + i];
+            at += self.lines;
+        }
     }
-    next - count
-}
 
-// Entry i goes to the walk's place i.
-fn spread(start: usize, step: usize, count: usize, input: &[u8], output: &mut [u8])
-    requires { Ready start step count (length input.now) (length output.old) }
-    ensures { output.new ≡ scatter (walk start step count) count input.now output.old }
-{
-    let mut at = start;
-    let mut i: usize = 0;
-    while i < count {
-        output[at] = input[i];
-        at = advance(step, count, at);
-        i += 1;
-    }
-}
-
-// Entry i comes from the walk's place i.
-fn collect(start: usize, step: usize, count: usize, input: &[u8], output: &mut [u8])
-    requires { Ready start step count (length input.now) (length output.old) }
-    ensures { output.new ≡ written (gather (walk start step count) count input.now) output.old }
-{
-    let mut at = start;
-    let mut i: usize = 0;
-    while i < count {
-        output[i] = input[at];
-        at = advance(step, count, at);
-        i += 1;
-    }
-}
-
-// Place i of 1..k goes to 1 + (a i mod k).
-pub fn block_interleave(k: usize, a: usize, input: &[u8], output: &mut [u8]) -> Result<(), Refusal>
-    ensures { Leaves (block_refusal k a (length input.now) (length output.old))
-        (interleaved k a input.now output.old) output.old output.new result }
-{
-    block_refusal(k, a, input.len(), output.len())?;
-    let step = block_step(k, a);
-    spread(step, step, k, input, output);
-    Ok(())
-}
-
-// Place i of 1..k comes from 1 + (a i mod k).
-pub fn block_deinterleave(k: usize, a: usize, input: &[u8], output: &mut [u8]) -> Result<(), Refusal>
-    ensures { Leaves (block_refusal k a (length input.now) (length output.old))
-        (written (deinterleaved k a input.now) output.old) output.old output.new result }
-{
-    block_refusal(k, a, input.len(), output.len())?;
-    let step = block_step(k, a);
-    collect(step, step, k, input, output);
-    Ok(())
-}
-
-// Entry i of the line goes to i lines + line.
-fn move_line(lines: usize, columns: usize, line: usize, input: &[u8], output: &mut [u8])
-    requires { (line < lines) × MatrixFits lines columns (length input.now) (length output.old) }
-    ensures { output.new ≡ line_moved lines columns line input.now output.old }
-{
-    let first = line * columns;
-    let mut at = line;
-    let mut i: usize = 0;
-    while i < columns {
-        output[at] = input[first + i];
-        at += lines;
-        i += 1;
-    }
-}
-
-// The line and the next one, entry by entry side by side.
-fn move_pair(lines: usize, columns: usize, line: usize, input: &[u8], output: &mut [u8])
-    requires { (line + 1 < lines) × MatrixFits lines columns (length input.now) (length output.old) }
-    ensures { output.new ≡ line_moved lines columns (line + 1) input.now (line_moved lines columns line input.now output.old) }
-{
-    let first = line * columns;
-    let second = first + columns;
-    let mut at = line;
-    let mut i: usize = 0;
-    while i < columns {
-        output[at] = input[first + i];
-        output[at + 1] = input[second + i];
-        at += lines;
-        i += 1;
-    }
-}
-
-// Every line at its places, two lines at a time.
-fn move_lines(lines: usize, columns: usize, input: &[u8], output: &mut [u8])
-    requires { MatrixFits lines columns (length input.now) (length output.old) }
-    ensures { output.new ≡ matrix_interleaved lines columns input.now output.old }
-{
-    let mut line: usize = 0;
-    while line + 1 < lines {
-        move_pair(lines, columns, line, input, output);
-        line += 2;
-    }
-    if line < lines {
-        move_line(lines, columns, line, input, output);
+    // Every line at its places, two lines at a time; a last line that has no next one goes alone.
+    fn move_lines(self, input: &[u8], output: &mut [u8])
+        requires { MatrixFits self.lines self.columns (length input.now) (length output.old) }
+        ensures { output.new ≡ matrix_interleaved self.lines self.columns input.now output.old }
+    {
+        for pair in 0..self.lines / 2 {
+            self.move_pair(2 * pair, input, output);
+        }
+        if self.lines % 2 == 1 {
+            self.move_line(self.lines - 1, input, output);
+        }
     }
 }
 
@@ -206,7 +235,7 @@ pub fn matrix_interleave(
         (matrix_interleaved lines columns input.now output.old) output.old output.new result }
 {
     matrix_refusal(lines, columns, input.len(), output.len())?;
-    move_lines(lines, columns, input, output);
+    Grid { lines, columns }.move_lines(input, output);
     Ok(())
 }
 
@@ -221,6 +250,10 @@ pub fn matrix_deinterleave(
         (written (matrix_deinterleaved lines columns input.now) output.old) output.old output.new result }
 {
     matrix_refusal(lines, columns, input.len(), output.len())?;
-    move_lines(columns, lines, input, output);
+    let turned = Grid {
+        lines: columns,
+        columns: lines,
+    };
+    turned.move_lines(input, output);
     Ok(())
 }

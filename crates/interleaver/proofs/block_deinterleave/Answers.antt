@@ -9,12 +9,13 @@ use Rattle.interleaver.proofs.block_deinterleave.Goals as goal
 pub collect-requires : goal.collect-requires
 collect-requires c =
     let g = c.args in
-    let accepted = sym c.block_refusal-refused.ensures ∙ c.if-refused-ne0.false in
-    block_ready g.k g.a c.block_step-step.result (length g.input.now) (length g.output.now) c.block_step-step.ensures accepted
+    let w = c.of_block.result in
+    block_ready g.k g.a w.start w.step w.count (length g.input.now) (length g.output.now) c.of_block.ensures
+    (sym c.block_refusal.ensures ∙ c.in_ok-block_refusal.was)
 
 pub returns : goal.returns
 returns c =
     let g = c.args in
-    let r = c.block_refusal-refused in
-    done r.result _ (written (deinterleaved g.k g.a g.input.now) g.output.now) g.output.now _ r.ensures c.if-refused-ne0.false
-    (c.collect.ensures ∙ block_collect g.k g.a c.block_step-step.result g.input.now g.output.now c.block_step-step.ensures)
+    let w = c.of_block.result in
+    done _ (written (deinterleaved g.k g.a g.input.now) g.output.now) g.output.now _ (sym c.block_refusal.ensures ∙ c.in_ok-block_refusal.was)
+    (c.collect.ensures ∙ block_collect g.k g.a w.start w.step w.count g.input.now g.output.now c.of_block.ensures)
