@@ -3,12 +3,12 @@
 use mathlib.Core.Path.{◌≡◌, sym, ap, ap₂, ◌∙◌, subst}
 use mathlib.Core.List.{List, ◌++◌}
 use mathlib.Core.Bool.{false}
-use Prim.Native.Nat.{ℕ, zero, suc, ◌*◌, ◌≤◌}
+use Prim.Native.Nat.{ℕ, ◌*◌, ◌≤◌}
 use native.Mathlib.Omega.{arith}
 use borrow.Author.Tests.{le-ltb}
 use lib.ListN.{length, take, drop, replicate, length-append, length-replicate}
 use lib.Seq.{length-take-le, take_at}
-use Rattle.base.specs.Refusal.{accepted, unless}
+use Rattle.base.specs.Refusal.{Owed, accepted, unless}
 use Rattle.base.specs.Bits.{Bits}
 use Rattle.base.specs.Places.{written, scatter, Apart}
 use Rattle.base.specs.private.Places.{Within}
@@ -27,13 +27,12 @@ use Rattle.scrambler.proofs.Blocks.{descrambled_length}
 
 -- ---- where nothing is refused
 -- what was made
-pub made : {A : Type 0} (number : ℕ) (new old left : A) → number ≡ accepted → left ≡ unless number new old → left ≡ new
-made zero new old left z p = p
-made (suc n) new old left z p = absurd (omega arith)
+pub made : {A : Type 0} (refusal : Owed) (new old left : A) → refusal ≡ accepted → left ≡ unless refusal new old → left ≡ new
+made refusal new old left z p = p ∙ ap (λ (r : Owed). unless r new old) z
 
 -- over a target that is as long
-pub whole : (number : ℕ) (new old left : List ℕ) → number ≡ accepted → length new ≡ length old → left ≡ unless number (written new old) old → left ≡ new
-whole number new old left z e p = made number (written new old) old left z p ∙ written_whole new old e
+pub whole : (refusal : Owed) (new old left : List ℕ) → refusal ≡ accepted → length new ≡ length old → left ≡ unless refusal (written new old) old → left ≡ new
+whole refusal new old left z e p = made refusal (written new old) old left z p ∙ written_whole new old e
 
 scramble_none : (block : List ℕ) → Bits block → send_refusal block ≡ accepted
 scramble_none block plain = rw (bits_only_yes (length block) block plain)

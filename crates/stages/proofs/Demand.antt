@@ -5,9 +5,11 @@ use mathlib.Core.Bool.{Bool}
 use mathlib.Core.List.{List}
 use Prim.Native.Nat.{ℕ}
 use lib.ListN.{length}
+use Rattle.std.specs.Prelude.{Result}
 use Rattle.base.specs.declared.Counts.{Counts}
 use Rattle.base.specs.declared.Received.{Received}
-use Rattle.base.specs.Refusal.{accepted, reception}
+use Rattle.base.specs.declared.Refusal.{Refusal}
+use Rattle.base.specs.Refusal.{Owed, accepted, reception}
 use Rattle.base.specs.Places.{written}
 use Rattle.trellis.specs.Nearest.{nearest}
 use Rattle.air.specs.Channel.{Channel}
@@ -18,11 +20,11 @@ use Rattle.stages.specs.Entries.{ReceiveEntry}
 use Rattle.stages.proofs.Entries.{unrefused}
 
 -- an entry by what it refuses, finds good, counts and decodes, of the air that it is given
-abbrev pub Entry : (List ℕ → ℕ → ℕ → ℕ) → (List ℕ → Bool) → (List ℕ → Counts) → (List ℕ → List ℕ) → ℕ
-    → List ℕ → List ℕ → List ℕ → Received → List ℕ → List ℕ → Type 0
+abbrev pub Entry : (List ℕ → ℕ → ℕ → Owed) → (List ℕ → Bool) → (List ℕ → Counts) → (List ℕ → List ℕ) → ℕ
+    → List ℕ → List ℕ → List ℕ → Result Received Refusal → List ℕ → List ℕ → Type 0
 Entry refusal good counts bits steps air = ReceiveEntry (refusal air) (λ t s. reception (refusal air t s) (good air) (counts air)) (bits air) steps
 
-module _ (refusal : List ℕ → ℕ → ℕ → ℕ) (good : List ℕ → Bool) (counts : List ℕ → Counts) (bits : List ℕ → List ℕ) (steps : ℕ) where
+module _ (refusal : List ℕ → ℕ → ℕ → Owed) (good : List ℕ → Bool) (counts : List ℕ → Counts) (bits : List ℕ → List ℕ) (steps : ℕ) where
   module _ {air : List ℕ} {count : ℕ} {target target' : List ℕ} (u : Unrefused (Entry refusal good counts bits steps) air count target target') where
     said : (refusal air (length target) (length u.trellis) ≡ accepted) × (u.counts ≡ counts air) × (target' ≡ written (bits air) target)
     said = unrefused (good air) (counts air) u.good u.counts u.call

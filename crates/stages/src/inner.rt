@@ -12,7 +12,7 @@ pub fn puncture(mode: u8, mother: &[u8], coded: &mut [u8])
     ensures { coded.new ≡ punctured mode (length coded.old) mother.now }
 {
     let count = coded.len();
-    puncturing::get_punctured_rate(mode, mother, count, coded);
+    let _ = puncturing::get_punctured_rate(mode, mother, count, coded);
 }
 
 // Bits scrambled where they stand.
@@ -20,7 +20,7 @@ pub fn scramble(start: u32, block: &mut [u8])
     requires { Bits block.old }
     ensures { block.new ≡ scrambled start block.old }
 {
-    scrambler::tetra_scramb_bits(start, block);
+    let _ = scrambler::tetra_scramb_bits(start, block);
 }
 
 // What a mode keeps of mother bits, moved to the places of the block interleaver and scrambled, over the whole target.
@@ -30,7 +30,7 @@ pub fn put_on_air(mode: u8, k: usize, a: usize, start: u32, mother: &[u8], air: 
 {
     let mut coded = [0u8; 432];
     puncture(mode, mother, &mut coded[..k]);
-    interleaver::block_interleave(k, a, &coded[..k], air);
+    let _ = interleaver::block_interleave(k, a, &coded[..k], air);
     scramble(start, air);
 }
 
@@ -39,7 +39,7 @@ pub fn put_matrix_on_air(lines: usize, columns: usize, start: u32, block: &[u8],
     requires { (lines ≤ 4096) × (columns ≤ 4096) × (lines * columns ≤ 4096) × (length block.now ≡ lines * columns) × Bits block.now × (length air.old ≡ lines * columns) }
     ensures { air.new ≡ scrambled start (matrix_interleaved lines columns block.now (replicate (lines * columns) 0)) }
 {
-    interleaver::matrix_interleave(lines, columns, block, air);
+    let _ = interleaver::matrix_interleave(lines, columns, block, air);
     scramble(start, air);
 }
 
@@ -50,7 +50,7 @@ pub fn descramble(start: u32, air: &[u8], plain: &mut [u8])
     requires { length plain.old ≤ length air.now }
     ensures { plain.new ≡ descrambled start (take (length plain.old) air.now) }
 {
-    base::inner::copy(air, plain);
+    plain.copy_from_slice(&air[..plain.len()]);
     scrambler::tetra_descramb_bits(start, plain);
 }
 
@@ -61,7 +61,7 @@ pub fn take_block_off_air(k: usize, a: usize, start: u32, air: &[u8], coded: &mu
 {
     let mut plain = [0u8; 432];
     descramble(start, air, &mut plain[..k]);
-    interleaver::block_deinterleave(k, a, &plain[..k], coded);
+    let _ = interleaver::block_deinterleave(k, a, &plain[..k], coded);
 }
 
 // As many air symbols as the matrix has, without their scrambling, each fetched from its place in it.
@@ -72,7 +72,7 @@ pub fn take_matrix_off_air(lines: usize, columns: usize, start: u32, air: &[u8],
     let count = block.len();
     let mut plain = [0u8; 432];
     descramble(start, air, &mut plain[..count]);
-    interleaver::matrix_deinterleave(lines, columns, &plain[..count], block);
+    let _ = interleaver::matrix_deinterleave(lines, columns, &plain[..count], block);
 }
 
 // Coded symbols at the places that a mode keeps of a mother target; its other entries stay.
@@ -80,7 +80,7 @@ pub fn depuncture(mode: u8, coded: &[u8], mother: &mut [u8])
     requires { (mode ≤ 6) × (length coded.now ≤ 4096) × (needed mode (length coded.now) ≤ length mother.old) }
     ensures { mother.new ≡ depunctured mode (length coded.now) coded.now mother.old }
 {
-    puncturing::tetra_rcpc_depunct(mode, coded, coded.len(), mother);
+    let _ = puncturing::tetra_rcpc_depunct(mode, coded, coded.len(), mother);
 }
 
 // The first k air symbols without their scrambling, at the places that a mode keeps of a mother target; its other entries stay.
