@@ -1,6 +1,6 @@
 -- Comparing entry by entry: what is matched before place i, and what is left from there; and that what the code gathers decides.
 -- Assumes nothing.
-use mathlib.Core.Path.{◌≡◌, refl, sym, ap, subst, ◌∙◌}
+use mathlib.Core.Path.{◌≡◌, refl, sym, ap, ap₂, subst, ◌∙◌}
 use mathlib.Core.List.{List, [], ◌∷◌, ◌++◌}
 use mathlib.Core.Bool.{Bool, true, false}
 use Prim.Native.Nat.{ℕ, zero, suc, ◌+◌, ◌≤◌, ◌<◌, min}
@@ -9,33 +9,32 @@ use native.Mathlib.Omega.{arith}
 use lib.Bits.{bit_or, or_zero_r}
 use lib.Dec.{eqb, ltb}
 use lib.ListN.{length, take, drop, get_or, drop_of_length-le}
-use lib.Seq.{drop-cons, take-suc, take-add}
+use lib.Seq.{drop-cons, take-suc, get_or-take, length-take-le}
 use borrow.Author.Tests.{eq-eqb, ne_eqb, eqb-true, eqb-false, ltb-true, ltb-false}
 use Rattle.base.specs.Bits.{ERASED}
 use Rattle.comparing.specs.Comparing.{one_more, pick, compare}
-use Rattle.comparing.specs.declared.Compared.{Compared}
-use Rattle.comparing.specs.declared.Compared.TheVariants.{Matched, Differs}
+use Rattle.std.specs.Prelude.{Option, Some, None}
 use Rattle.comparing.specs.private.Gathering.{unless_erased, unlike, counts, difference, unerased, differing}
 
 -- so many matches before
-abbrev pub plus : ℕ → Compared → Compared
-plus n (Matched m) = Matched (n + m)
-plus n Differs = Differs
+abbrev pub plus : ℕ → Option ℕ → Option ℕ
+plus n (Some m) = Some (n + m)
+plus n None = None
 
-plus_zero : (c : Compared) → c ≡ plus 0 c
-plus_zero (Matched m) = ap Matched (omega arith)
-plus_zero Differs = refl
+plus_zero : (c : Option ℕ) → c ≡ plus 0 c
+plus_zero (Some m) = ap Some (omega arith)
+plus_zero None = refl
 
-plus_more : (n : ℕ) (c : Compared) → plus n (one_more c) ≡ plus (n + 1) c
-plus_more n (Matched m) = ap Matched (omega arith)
-plus_more n Differs = refl
+plus_more : (n : ℕ) (c : Option ℕ) → plus n (one_more c) ≡ plus (n + 1) c
+plus_more n (Some m) = ap Some (omega arith)
+plus_more n None = refl
 
-nothing : (ms : List ℕ) → compare ms [] ≡ Matched 0
+nothing : (ms : List ℕ) → compare ms [] ≡ Some 0
 unfolding compare
 nothing [] = refl
 nothing (m ∷ ms) = refl
 
-begun : (ds : List ℕ) → compare [] ds ≡ Matched 0
+begun : (ds : List ℕ) → compare [] ds ≡ Some 0
 unfolding compare
 begun ds = refl
 
@@ -46,7 +45,7 @@ module _ (ms ds : List ℕ) where
   module _ (i : ℕ) (h : i < length ms) (k : i < length ds) where
     one : compare (drop i ms) (drop i ds)
         ≡ pick (eqb (get_or ds i 0) ERASED) (compare (drop (i + 1) ms) (drop (i + 1) ds))
-        (pick (eqb (get_or ds i 0) (get_or ms i 0)) (one_more (compare (drop (i + 1) ms) (drop (i + 1) ds))) Differs)
+        (pick (eqb (get_or ds i 0) (get_or ms i 0)) (one_more (compare (drop (i + 1) ms) (drop (i + 1) ds))) None)
     unfolding compare
     one = rw (add-one, drop-cons ms i 0 h, drop-cons ds i 0 k)
 
@@ -59,15 +58,15 @@ module _ (ms ds : List ℕ) where
           e
           ∙ rw (one, ne_eqb (get_or ds i 0) ERASED known, eq-eqb (get_or ds i 0) (get_or ms i 0) same) (plus_more n (compare (drop (i + 1) ms) (drop (i + 1) ds)))
 
-      pub matching_differs : (get_or ds i 0 ≡ ERASED → ⊥) → (get_or ds i 0 ≡ get_or ms i 0 → ⊥) → compare ms ds ≡ Differs
+      pub matching_differs : (get_or ds i 0 ≡ ERASED → ⊥) → (get_or ds i 0 ≡ get_or ms i 0 → ⊥) → compare ms ds ≡ None
       matching_differs known other =
           e ∙ rw (one, ne_eqb (get_or ds i 0) ERASED known, ne_eqb (get_or ds i 0) (get_or ms i 0) other)
 
   -- at the end of the shorter nothing is left
-  pub matching_all : (i n : ℕ) → min (length ms) (length ds) ≤ i → compare ms ds ≡ plus n (compare (drop i ms) (drop i ds)) → compare ms ds ≡ Matched n
-  matching_all i n h e = e ∙ ap (plus n) (over (ltb i (length ms)) refl) ∙ ap Matched (omega arith)
+  pub matching_all : (i n : ℕ) → min (length ms) (length ds) ≤ i → compare ms ds ≡ plus n (compare (drop i ms) (drop i ds)) → compare ms ds ≡ Some n
+  matching_all i n h e = e ∙ ap (plus n) (over (ltb i (length ms)) refl) ∙ ap Some (omega arith)
     where
-      over : (t : Bool) → ltb i (length ms) ≡ t → compare (drop i ms) (drop i ds) ≡ Matched 0
+      over : (t : Bool) → ltb i (length ms) ≡ t → compare (drop i ms) (drop i ds) ≡ Some 0
       over true t =
           ap (compare (drop i ms)) (drop_of_length-le ds {i = i} (omega (arith, ltb-true i (length ms) t))) ∙ nothing (drop i ms)
       over false t =
@@ -95,8 +94,15 @@ pub unerased_none : (ds : List ℕ) → 0 ≡ unerased (take 0 ds)
 unfolding unerased
 unerased_none ds = refl
 
-pub unerased_part : (ds : List ℕ) (i k : ℕ) → unerased (take (i + k) ds) ≡ unerased (take i ds) + unerased (take k (drop i ds))
-unerased_part ds i k = ap unerased (take-add i k ds) ∙ unerased_append (take i ds) (take k (drop i ds))
+-- where nothing is left, what was found is what the whole gives
+pub unerased_all : (ds rest : List ℕ) (n : ℕ) → length rest ≡ 0 → n + unerased rest ≡ unerased ds → n ≡ unerased ds
+unfolding unerased
+unerased_all ds [] n l e = omega arith
+unerased_all ds (d ∷ rest) n l e = absurd (omega arith)
+
+-- one part more
+pub unerased_part : (rest part rest' : List ℕ) (n m : ℕ) → rest ≡ part ++ rest' → m ≡ unerased part → n + m + unerased rest' ≡ n + unerased rest
+unerased_part rest part rest' n m e is = omega (arith, is, ap unerased e, unerased_append part rest')
 
 pub unerased_more : (ds : List ℕ) (i : ℕ) → i < length ds → unerased (take (i + 1) ds) ≡ unerased (take i ds) + counts (get_or ds i 0)
 unfolding unerased
@@ -112,6 +118,13 @@ pub differing_more : (ms ds : List ℕ) (i : ℕ) → bit_or (differing i ms ds)
 unfolding differing
 differing_more ms ds i = rw add-one
 
+-- entries past place n change nothing before it
+pub differing_front : (ms ds : List ℕ) (n i : ℕ) → i ≤ n → differing i (take n ms) (take n ds) ≡ differing i ms ds
+unfolding differing
+differing_front ms ds n zero h = refl
+differing_front ms ds n (suc i) h =
+    ap₂ bit_or (differing_front ms ds n i (omega arith)) (ap₂ difference (get_or-take n ms i 0 (omega arith)) (get_or-take n ds i 0 (omega arith)))
+
 or_one : (x : ℕ) → x < 2 → bit_or x 1 ≡ 1
 or_one zero h = refl
 or_one (suc zero) h = refl
@@ -121,7 +134,7 @@ or_one (suc (suc x)) h = absurd (omega arith)
 record Gathered (ms ds : List ℕ) (i x : ℕ) : Type 0 where
   bit : x < 2
   same : x ≡ 0 → compare ms ds ≡ plus (unerased (take i ds)) (compare (drop i ms) (drop i ds))
-  other : x ≡ 1 → compare ms ds ≡ Differs
+  other : x ≡ 1 → compare ms ds ≡ None
 
 gathered_more : (ms ds : List ℕ) (i x : ℕ) → i < length ms → i < length ds → Gathered ms ds i x
     → Gathered ms ds (i + 1) (bit_or x (difference (get_or ms i 0) (get_or ds i 0)))
@@ -130,7 +143,7 @@ gathered_more ms ds i x h k g = go (eqb d ERASED) (eqb d (get_or ms i 0)) refl r
     d : ℕ
     d = get_or ds i 0
 
-    rest : Compared
+    rest : Option ℕ
     rest = compare (drop (i + 1) ms) (drop (i + 1) ds)
 
     onward : (a : Bool) → eqb d ERASED ≡ a → plus (unerased (take i ds) + unless_erased a 1) rest ≡ plus (unerased (take (i + 1) ds)) rest
@@ -139,7 +152,7 @@ gathered_more ms ds i x h k g = go (eqb d ERASED) (eqb d (get_or ms i 0)) refl r
     zero_more : plus (unerased (take i ds)) rest ≡ plus (unerased (take i ds) + 0) rest
     zero_more = ap (λ (n : ℕ). plus n rest) (omega arith)
 
-    found : (y : ℕ) → x ≡ y → y < 2 → eqb d ERASED ≡ false → eqb d (get_or ms i 0) ≡ false → compare ms ds ≡ Differs
+    found : (y : ℕ) → x ≡ y → y < 2 → eqb d ERASED ≡ false → eqb d (get_or ms i 0) ≡ false → compare ms ds ≡ None
     found zero e l p q = matching_differs ms ds i h k (unerased (take i ds)) (g.same e) (eqb-false d ERASED p) (eqb-false d (get_or ms i 0) q)
     found (suc zero) e l p q = g.other e
     found (suc (suc y)) e l p q = absurd (omega arith)
@@ -176,8 +189,13 @@ module _ (ms ds : List ℕ) (n : ℕ) (e : n ≡ min (length ms) (length ds)) wh
   all : Gathered ms ds n (differing n ms ds)
   all = gathered ms ds n (omega arith) (omega arith)
 
-  pub some_differ : (differing n ms ds ≡ 0 → ⊥) → compare ms ds ≡ Differs
-  some_differ h = all.other (omega (arith, all.bit))
+  front : differing (length (take n ds)) (take n ms) (take n ds) ≡ differing n ms ds
+  front = ap (λ (k : ℕ). differing k (take n ms) (take n ds)) (length-take-le n ds (omega arith)) ∙ differing_front ms ds n n (omega arith)
 
-  pub none_differ : differing n ms ds ≡ 0 → compare ms ds ≡ Matched (unerased (take n ds))
-  none_differ h = matching_all ms ds n (unerased (take n ds)) (omega arith) (all.same h)
+  pub some_differ : ltb 0 (differing (length (take n ds)) (take n ms) (take n ds)) ≡ true → compare ms ds ≡ None
+  some_differ h = all.other (omega (arith, all.bit, front, ltb-true 0 (differing (length (take n ds)) (take n ms) (take n ds)) h))
+
+  pub none_differ : ltb 0 (differing (length (take n ds)) (take n ms) (take n ds)) ≡ false → compare ms ds ≡ Some (unerased (take n ds))
+  none_differ h =
+      matching_all ms ds n (unerased (take n ds)) (omega arith)
+      (all.same (omega (arith, front, ltb-false 0 (differing (length (take n ds)) (take n ms) (take n ds)) h)))

@@ -1,12 +1,9 @@
--- Before place i what was found is what the first i entries give.
+-- What was found and what the rest gives are together what the whole gives.
 use mathlib.Core.Path.{◌≡◌}
-use Prim.Native.Nat.{◌-◌, ◌≤◌}
-use lib.ListN.{take}
+use Prim.Native.Nat.{◌+◌}
 use Rattle.comparing.specs.private.Gathering.{unerased}
 use Rattle.comparing.proofs.unerased_among.Given as goal
 
-abbrev pub invariant-loop-i : goal.invariant-loop-i
-invariant-loop-i l = (l.i ≤ l.n) × (l.found ≤ l.i) × (l.found ≡ unerased (take l.i l.s))
-
-abbrev pub decreases-loop-i : goal.decreases-loop-i
-decreases-loop-i l = l.n - l.i
+abbrev pub invariant-loop-part : goal.invariant-loop-part
+invariant-loop-part l =
+    (l.part-iterator.size ≡ 240) × (l.found + unerased l.part-iterator.rest.now ≡ unerased l.s)
