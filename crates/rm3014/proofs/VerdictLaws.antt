@@ -1,16 +1,20 @@
 -- What a verdict means: Clean and Mended say exactly which code word was sent with no wrong bit or one, and two wrong bits are Beyond.
 -- Assumes nothing.
 use mathlib.Core.Path.{◌≡◌, refl, sym, ap, ap₂, ◌∙◌}
-use mathlib.Core.Bool.{Bool, true, false}
-use Prim.Native.Nat.{ℕ, zero, suc, ◌-◌, ◌*◌, ◌/◌, ◌%◌, ◌^◌, ◌≤◌, ◌<◌}
+use mathlib.Core.Bool.{Bool, true, false, cond}
+use mathlib.Core.List.{List, [], ◌∷◌}
+use Prim.Native.Nat.{ℕ, zero, suc, ◌+◌, ◌-◌, ◌*◌, ◌/◌, ◌%◌, ◌^◌, ◌≤◌, ◌<◌}
 use native.Mathlib.Nat.{one-mul, mod-eq_of_lt}
 use native.Mathlib.Omega.{arith}
 use lib.Bits.{bit_xor, xor_self}
-use lib.Dec.{ltb}
+use lib.Dec.{eqb, ltb}
 use lib.ListN.{length, get_or}
 use lib.Pow.{pow-lt}
 use borrow.Author.Tests.{ltb-true, ltb-false}
-use Rattle.linear.specs.Linear.{turned}
+use Rattle.std.specs.Prelude.{◌==◌, Option, None, Some, position}
+use Rattle.std.specs.List.{position_from}
+use Rattle.std.proofs.lemmas.Iterator.Adapters.{position_from-zero}
+use Rattle.linear.specs.Linear.{turned, place_from}
 use Rattle.linear.proofs.WrongBits.{turned_lt, turned_twice, turned_swap, image_turned, place_at, column_set, column_place, pair_set, pair_place, one_turned, two_turned}
 use Rattle.rm3014.specs.Code.{code_word, data_of, columns, syndrome, place_of}
 use Rattle.rm3014.specs.Verdict.{verdict_by, verdict}
@@ -63,6 +67,25 @@ mended_fits word s p h f z =
     let l : turned 30 p word < 2 ^ 30 = turned_lt 30 p word (omega (arith, z)) (omega (arith, f, place_le s)) h in
     let e : data_of (bit_xor word (1 * 2 ^ (30 - p) % 2 ^ 32)) ≡ turned 30 p word / 2 ^ 16 = ap (λ (x : ℕ). data_of (bit_xor word x)) (shifted_one p) in
     omega (arith, e, l)
+
+-- ---- the search for a column
+-- the place is one more than the number of columns before it, and 0 where the sum stands nowhere
+abbrev pub place_at_column : Option ℕ → ℕ
+place_at_column None = 0
+place_at_column (Some i) = i + 1
+
+place_found : (k s : ℕ) (cs : List ℕ) → place_at_column (position_from (λ c. c == s) k cs) ≡ place_from (k + 1) s cs
+place_found k s [] = refl
+place_found k s (c ∷ cs) = go (place_found (k + 1) s cs) (eqb c s)
+  where
+    go : place_at_column (position_from (λ c. c == s) (k + 1) cs) ≡ place_from (k + 1 + 1) s cs → (t : Bool)
+        → place_at_column (cond t (Some k) (position_from (λ c. c == s) (k + 1) cs)) ≡ cond t (k + 1) (place_from (k + 1 + 1) s cs)
+    go on true = refl
+    go on false = on
+
+pub place_by_column : (s : ℕ) (found : Option ℕ) → found ≡ position (λ c. c == s) columns → place_at_column found ≡ place_of s
+unfolding place_of
+place_by_column s found e = ap (place_at_column) (e ∙ position_from-zero (λ c. c == s) columns) ∙ place_found 0 s columns
 
 -- ---- wrong bits
 one_wrong : (word i : ℕ) → syndrome word ≡ 0 → i < 30 → syndrome (turned 30 (suc i) word) ≡ get_or columns i 0

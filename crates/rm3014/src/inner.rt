@@ -1,6 +1,6 @@
 // The work behind the entries, which asks for numbers in range.
-ghost use Rattle.std.specs.Prelude.{◌≡◌, ◌<◌, ◌^◌};
-ghost use Rattle.rm3014.specs.Code.{code_word, syndrome, place_of};
+ghost use Rattle.std.specs.Prelude.{◌≡◌, ◌==◌, ◌<◌, ◌^◌, position};
+ghost use Rattle.rm3014.specs.Code.{code_word, columns, syndrome};
 ghost use Rattle.rm3014.specs.Verdict.{verdict};
 
 use super::{COL_SYNDROMES, RM_30_14_ROWS_PRECOMPUTED, Verdict};
@@ -10,11 +10,10 @@ pub fn code_word(input: u16) -> u32
     requires { input < 2 ^ 14 }
     ensures { result ≡ code_word input }
 {
-    let rows = RM_30_14_ROWS_PRECOMPUTED;
     let mut word: u32 = 0;
-    for i in 0..14 {
+    for (i, row) in RM_30_14_ROWS_PRECOMPUTED.iter().enumerate() {
         if (input >> (13 - i)) & 1 == 1 {
-            word ^= rows[i];
+            word ^= row;
         }
     }
     word
@@ -24,27 +23,20 @@ pub fn code_word(input: u16) -> u32
 pub fn syndrome_of(codeword: u32) -> u16
     ensures { result ≡ syndrome codeword }
 {
-    let columns = COL_SYNDROMES;
     let mut sum: u16 = 0;
-    for i in 0..30 {
+    for (i, column) in COL_SYNDROMES.iter().enumerate() {
         if (codeword >> (29 - i)) & 1 == 1 {
-            sum ^= columns[i];
+            sum ^= column;
         }
     }
     sum
 }
 
-// The place of 1 to 30 that adds this much to the syndrome, or 0.
-fn place_of(sum: u16) -> usize
-    ensures { result ≡ place_of sum }
+// The first column that is the sum, counted from 0.
+fn column_of(sum: u16) -> Option<usize>
+    ensures { result ≡ position (λ c. c == sum) columns }
 {
-    let columns = COL_SYNDROMES;
-    for i in 0..30 {
-        if columns[i] == sum {
-            return i + 1;
-        }
-    }
-    0
+    COL_SYNDROMES.iter().position(|column| *column == sum)
 }
 
 // The verdict on a word.
@@ -56,10 +48,10 @@ pub fn verdict_of(codeword: u32) -> Verdict
     if sum == 0 {
         return Verdict::Clean((codeword >> 16) as u16);
     }
-    let place = place_of(sum);
-    if place == 0 {
+    let Some(i) = column_of(sum) else {
         return Verdict::Beyond((codeword >> 16) as u16);
-    }
+    };
+    let place = i + 1;
     let mended = codeword ^ (1u32 << (30 - place));
     Verdict::Mended(place as u8, (mended >> 16) as u16)
 }

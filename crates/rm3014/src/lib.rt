@@ -126,9 +126,7 @@ fn row_syndrome(k: usize) -> u16
     ensures { result ≡ upwards (get_or table k []) }
 {
     let mut sum: u16 = 0;
-    let mut j: usize = 16;
-    while 0 < j {
-        j -= 1;
+    for j in (0..16).rev() {
         sum = sum * 2 + RM_30_14_GEN[k][j] as u16;
     }
     sum

@@ -9,6 +9,3 @@ use Rattle.rm3014.proofs.row_syndrome.Given as goal
 
 abbrev pub invariant-loop-j : goal.invariant-loop-j
 invariant-loop-j l = (l.j ≤ 16) × (l.sum ≡ upwards (drop l.j (get_or table l.k [])))
-
-abbrev pub decreases-loop-j : goal.decreases-loop-j
-decreases-loop-j l = l.j
