@@ -4,13 +4,11 @@ use mathlib.Core.Path.{◌≡◌, refl, sym, ap, ◌∙◌, subst}
 use mathlib.Core.List.{List, [], ◌∷◌}
 use mathlib.Core.Bool.{Bool, true, false, not, cond}
 use Prim.Native.Nat.{ℕ, zero, suc, ◌+◌, ◌-◌, ◌^◌, ◌≤◌, ◌<◌}
-use native.Mathlib.Numerals.{add-one}
 use native.Mathlib.Omega.{arith}
 use lib.Bits.{bit_xor, xor_zero_r, xor_self, xor_comm, xor_lt}
 use lib.Dec.{T, T_not, eqb, eqb_refl}
-use lib.ListN.{length, get_or, drop}
+use lib.ListN.{length, get_or}
 use lib.Pow.{pow-lt}
-use lib.Seq.{drop-cons}
 use borrow.Author.Tests.{eq-eqb, ne_eqb, eqb-true}
 use Rattle.base.proofs.Table.{below, at}
 use Rattle.base.proofs.Xor.{xor_assoc}
@@ -35,16 +33,6 @@ pub image_turned : (cs : List ℕ) (i w : ℕ) → i < length cs → image cs (t
 image_turned cs i w h = image_xor cs w (2 ^ (length cs - suc i)) ∙ ap (bit_xor (image cs w)) (image_one cs i h)
 
 -- ---- the place of a column
--- a loop that looks for the first place: here, or further on
-pub place_here : (k s i : ℕ) (cs : List ℕ) → i < length cs → get_or cs i 0 ≡ s → place_from k s (drop i cs) ≡ k
-place_here k s i cs h e =
-    ap (place_from k s) (drop-cons cs i 0 h) ∙ ap (λ (t : Bool). cond t k (place_from (k + 1) s (drop (suc i) cs))) (eq-eqb (get_or cs i 0) s e)
-
-pub place_on : (k s i : ℕ) (cs : List ℕ) → i < length cs → (get_or cs i 0 ≡ s → ⊥) → place_from k s (drop i cs) ≡ place_from (k + 1) s (drop (i + 1) cs)
-place_on k s i cs h n =
-    ap (place_from k s) (drop-cons cs i 0 h) ∙ ap (λ (t : Bool). cond t k (place_from (k + 1) s (drop (suc i) cs))) (ne_eqb (get_or cs i 0) s n)
-    ∙ ap (λ (m : ℕ). place_from (k + 1) s (drop m cs)) (sym (add-one i))
-
 -- it stands at i and not before
 pub place_first : (k s : ℕ) (cs : List ℕ) (i : ℕ) → i < length cs → get_or cs i 0 ≡ s → ((j : ℕ) → j < i → get_or cs j 0 ≡ s → ⊥) → place_from k s cs ≡ k + i
 place_first k s [] i h e n = absurd (omega arith)

@@ -20,6 +20,7 @@ pub fn code_word(input: u16) -> u32
 }
 
 // The syndrome of a word.
+// Stays beside code_word: the tables have entries of two widths, and one function over both would convert each entry and the sum.
 pub fn syndrome_of(codeword: u32) -> u16
     ensures { result ≡ syndrome codeword }
 {
