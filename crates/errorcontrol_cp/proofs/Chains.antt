@@ -1,13 +1,14 @@
--- The chains from end to end: what a kind's numbers say to each stage, and what the stages leave together.
+-- The chains from end to end: what the stages leave together, by a kind's numbers and for the kind.
 -- Assumes nothing.
 use mathlib.Core.Path.{◌≡◌, sym, ap, ap₂, ◌∙◌, subst}
 use mathlib.Core.List.{List, [], ◌∷◌, ◌++◌}
-use mathlib.Core.Bool.{true, false}
+use mathlib.Core.Bool.{true}
 use Prim.Native.Nat.{ℕ, ◌+◌, ◌*◌, ◌≤◌}
 use native.Mathlib.Omega.{arith}
-use lib.ListN.{length, take, drop, replicate}
+use lib.ListN.{length, take, drop, replicate, length-replicate}
 use lib.Dec.{eqb}
-use lib.Seq.{length-take-le, take-append-le}
+use lib.Seq.{take-append-le, take-length}
+use Rattle.std.specs.Prelude.{Ok}
 use Rattle.base.specs.declared.Received.{Received}
 use Rattle.base.specs.Refusal.{accepted, unless, checked}
 use Rattle.base.specs.Bits.{Bits, bits_only, ERASED}
@@ -21,166 +22,114 @@ use Rattle.crc16.specs.Crc.{register, OK}
 use Rattle.convenc.specs.Generators.{control, outputs, encode_refusal}
 use Rattle.convenc.proofs.Calls.{encode_accepts}
 use Rattle.convenc.proofs.Encoding.{encoded_bits, encoded_length}
-use Rattle.puncturing.specs.Puncturing.{needed, punctured, depunctured}
-use Rattle.interleaver.specs.Interleaving.{shared, interleaved, deinterleaved}
+use Rattle.base.proofs.Moves.{scatter_length}
+use Rattle.puncturing.specs.Puncturing.{kept_place, punctured, depunctured}
+use Rattle.interleaver.specs.Interleaving.{interleaved, deinterleaved}
 use Rattle.scrambler.specs.Scrambling.{scrambled, descrambled}
 use Rattle.viterbi.specs.Decoding.{decoded, disagreements, cleared}
 use Rattle.viterbi.specs.private.Finding.{Finds}
 use Rattle.stages.proofs.Calls.{whole, front}
 use Rattle.stages.proofs.Entries.{receives_done}
-use Rattle.errorcontrol_cp.specs.Kinds.{is_kind, data_bits, air_symbols, interleaver_step}
+use Rattle.errorcontrol_cp.specs.Kinds.{data_bits, air_symbols, interleaver_step}
 use Rattle.errorcontrol_cp.specs.private.Kinds.{Numbers}
-use Rattle.errorcontrol_cp.specs.Sending.{word_of, coded, sent, send_refusal}
+use Rattle.errorcontrol_cp.specs.private.Blocks.{sent_by, mother_by, Settles}
+use Rattle.errorcontrol_cp.specs.Sending.{word_of, coded, sent}
 use Rattle.errorcontrol_cp.specs.Receiving.{coded_from, mother, word_from, counts_of, good, receive_refusal, Receives}
-use Rattle.errorcontrol_cp.proofs.Rows.{row}
-use Rattle.errorcontrol_cp.proofs.Refusals.{send_accepts, receive_accepts}
 use Rattle.errorcontrol_cp.proofs.Words.{word_length, word_bits_lem}
-use Rattle.errorcontrol_cp.proofs.Demand.{sent_length, mother_length}
+use Rattle.errorcontrol_cp.proofs.Demand.{sent_length}
 
--- what a kind's numbers say to the stages
-pub record Fit (d n k a : ℕ) : Type 0 where
-  pub word : n ≡ d + 20
-  pub most : d ≤ 268
-  pub few : k ≤ 432
-  pub number : a ≤ 65535
-  pub alone : shared k a ≡ false
-  pub reach : needed 0 k ≤ 4 * n
+-- ---- the word over the front of a work array, then its mother code
+module _ (block word : List ℕ) (was : word ≡ word_of block) where
+  pub word_size : length word ≡ length block + 20
+  word_size = ap length was ∙ word_length block
 
-pub fit : (kind d n k a : ℕ) → is_kind kind ≡ true → Numbers kind d n k a → Fit d n k a
-fit kind d n k a known is =
-    let r = row kind known in
-    record {
-      word = omega (arith, is.block, is.word, r.word);
-      most = omega (arith, is.block, r.most);
-      few = omega (arith, is.air, r.air, r.word, r.most);
-      number = omega (arith, is.step, r.step);
-      alone = ap₂ shared is.air is.step ∙ r.alone;
-      reach = omega (arith, ap (needed 0) is.air, is.word, r.reach);
-    }
-
--- ---- sending
-pub record Sendable (block : List ℕ) (target d n k a : ℕ) : Type 0 where
-  pub fit : Fit d n k a
-  pub long : d ≤ length block
-  pub plain : bits_only d block ≡ true
-  pub room : k ≤ target
-
-pub sendable : (kind : ℕ) (block : List ℕ) (room d n k a : ℕ) → send_refusal kind block room ≡ accepted → Numbers kind d n k a → Sendable block room d n k a
-sendable kind block room d n k a ok is =
-    let s = send_accepts kind block room ok in
-    record {
-      fit = fit kind d n k a s.known is;
-      long = omega (arith, is.block, s.long);
-      plain = ap (λ (x : ℕ). bits_only x block) is.block ∙ s.plain;
-      room = omega (arith, is.air, s.room);
-    }
-
--- the word over the front of a work array, then its mother code
-module _ (count : ℕ) (source word : List ℕ) (long : count ≤ length source) (was : word ≡ word_of (take count source)) where
-  pub word_size : length word ≡ count + 20
-  word_size = ap length was ∙ word_length (take count source) ∙ ap (λ (n : ℕ). n + 20) (length-take-le count source long)
-
-  pub mother_made : (work delayed mother mother' : List ℕ) → bits_only count source ≡ true → count ≤ 268 → delayed ≡ 0 ∷ 0 ∷ 0 ∷ 0 ∷ [] → length mother ≡ 4 * (count + 20)
-      → mother' ≡ unless (encode_refusal 4 delayed (take (count + 20) (word ++ drop (count + 20) work)) (length mother))
-      (written (encode (outputs control) (number delayed) (take (count + 20) (word ++ drop (count + 20) work))) mother) mother
-      → mother' ≡ encode (outputs control) 0 (word_of (take count source))
+  pub mother_made : (work delayed mother mother' : List ℕ) → bits_only (length block) block ≡ true → length block ≤ 268 → delayed ≡ 0 ∷ 0 ∷ 0 ∷ 0 ∷ [] → length mother ≡ 4 * (length block + 20)
+      → mother' ≡ unless (encode_refusal 4 delayed (take (length block + 20) (word ++ drop (length block + 20) work)) (length mother))
+      (written (encode (outputs control) (number delayed) (take (length block + 20) (word ++ drop (length block + 20) work))) mother) mother
+      → mother' ≡ encode (outputs control) 0 (word_of block)
   mother_made work delayed mother mother' plain most fresh size e =
       whole (encode_refusal 4 (0 ∷ 0 ∷ 0 ∷ 0 ∷ []) word (length mother)) (encode (outputs control) 0 word) mother mother'
       (encode_accepts 4 (0 ∷ 0 ∷ 0 ∷ 0 ∷ []) word (length mother) (omega (arith, word_size)) (omega (arith, word_size))
-      (subst Bits (sym was) (word_bits_lem (take count source) (bits_only_bits count source plain))) (zeros_bits 4))
+      (subst Bits (sym was) (word_bits_lem block (subst Bits (take-length block) (bits_only_bits (length block) block plain)))) (zeros_bits 4))
       (encoded_length control 0 word ∙ ap (λ (n : ℕ). 4 * n) word_size ∙ sym size)
       (e ∙ ap₂ (λ (d w : List ℕ). unless (encode_refusal 4 d w (length mother)) (written (encode (outputs control) (number d) w) mother) mother) fresh
-      (front (count + 20) word work word_size))
+      (front (length block + 20) word work word_size))
       ∙ ap (encode (outputs control) 0) was
 
-module _ (kind start : ℕ) (block air : List ℕ) (d n k a : ℕ) (is : Numbers kind d n k a) (can : Sendable block (length air) d n k a)
-    (mother : List ℕ) (was : mother ≡ encode (outputs control) 0 (word_of (take d block))) where
-  pub mother_size : length mother ≡ 4 * n
-  mother_size =
-      ap length was ∙ encoded_length control 0 (word_of (take d block))
-      ∙ ap (λ (x : ℕ). 4 * x) (word_length (take d block) ∙ ap (λ (x : ℕ). x + 20) (length-take-le d block can.long) ∙ sym can.fit.word)
+-- and what a block's mother code is
+module _ (block mother : List ℕ) (was : mother ≡ encode (outputs control) 0 (word_of block)) where
+  pub mother_size : length mother ≡ 4 * (length block + 20)
+  mother_size = ap length was ∙ encoded_length control 0 (word_of block) ∙ ap (λ (x : ℕ). 4 * x) (word_length block)
 
   pub mother_bits : Bits mother
-  mother_bits = subst Bits (sym was) (encoded_bits control 0 (word_of (take d block)))
+  mother_bits = subst Bits (sym was) (encoded_bits control 0 (word_of block))
 
-  pub sent_made : (work new : List ℕ) → new ≡ scrambled start (interleaved k a (punctured 0 k (take (4 * n) (mother ++ drop (4 * n) work))) (replicate k 0))
-      → new ++ drop k air ≡ written (sent kind start (word_of (take (data_bits kind) block))) air
-  unfolding sent coded
-  sent_made work new e =
-      ap₂ (λ (x : List ℕ) (y : ℕ). x ++ drop y air) whole (is.air ∙ sym (sent_length kind start (word_of (take (data_bits kind) block))))
-    where
-      kept : take (4 * n) (mother ++ drop (4 * n) work) ≡ encode (outputs control) 0 (word_of (take (data_bits kind) block))
-      kept = front (4 * n) mother work mother_size ∙ was ∙ ap (λ (x : ℕ). encode (outputs control) 0 (word_of (take x block))) is.block
+-- the air symbols of a mother code that stands over the front of a work array
+pub sent_made : (n k a start mode count step from : ℕ) (mother work w : List ℕ) → mode ≡ 0 → count ≡ k → step ≡ a → from ≡ start
+    → length mother ≡ 4 * n → mother ≡ encode (outputs control) 0 w
+    → scrambled from (interleaved count step (punctured mode count (take (4 * n) (mother ++ drop (4 * n) work))) (replicate count 0)) ≡ sent_by k a start w
+sent_made n k a start mode count step from mother work w p q r s size was =
+    rw (p, q, r, s) (ap (λ (m : List ℕ). scrambled start (interleaved k a (punctured 0 k m) (replicate k 0))) (front (4 * n) mother work size ∙ was))
 
-      whole : new ≡ sent kind start (word_of (take (data_bits kind) block))
-      whole =
-          e
-          ∙ ap₂ (λ (x y : ℕ). scrambled start (interleaved x y (punctured 0 x (take (4 * n) (mother ++ drop (4 * n) work))) (replicate x 0))) is.air is.step
-          ∙ ap (λ (m : List ℕ). scrambled start (interleaved (air_symbols kind) (interleaver_step kind) (punctured 0 (air_symbols kind) m) (replicate (air_symbols kind) 0))) kept
-
--- ---- receiving
-pub record Receivable (air word trellis d n k a : ℕ) : Type 0 where
-  pub fit : Fit d n k a
-  pub long : k ≤ air
-  pub room : n ≤ word
-  pub steps : n ≤ trellis
-
-pub receivable : (kind air word trellis d n k a : ℕ) → receive_refusal kind air word trellis ≡ accepted → Numbers kind d n k a → Receivable air word trellis d n k a
-receivable kind air word trellis d n k a ok is =
-    let s = receive_accepts kind air word trellis ok in
-    record {
-      fit = fit kind d n k a s.known is;
-      long = omega (arith, is.air, s.long);
-      room = omega (arith, is.word, s.room);
-      steps = omega (arith, is.word, s.steps);
-    }
-
--- the decoder's word is judged by its data and check
-pub settled : (count n : ℕ) (symbols word word' trellis trellis' : List ℕ) (value : ℕ) → count + 20 ≡ n → Finds control n symbols word word' trellis trellis' value
-    → (answer : Received) → answer ≡ checked (eqb (register 0xffff (take (count + 16) word')) OK) (record { disagreements = value })
-    → (answer ≡ checked (eqb (register 0xffff (take (count + 16) (decoded control n symbols))) OK)
-    (record { disagreements = disagreements control n symbols (decoded control n symbols) }))
-    × (word' ≡ written (decoded control n symbols) word) × (trellis' ≡ cleared n trellis)
-settled count n symbols word word' trellis trellis' value tail does answer e = (
-  e ∙ ap₂ (λ (w : List ℕ) (x : ℕ). checked (eqb (register 0xffff w) OK) (record { disagreements = x })) front_kept does.counts,
-  does.writes,
-  does.clears,
-)
+-- ---- the mother symbols over the front of erasures
+pub symbols_made : (n k a start mode count step from : ℕ) (air work made : List ℕ) → mode ≡ 0 → count ≡ k → step ≡ a → from ≡ start
+    → take (4 * n) work ≡ replicate (4 * n) ERASED
+    → made ≡ depunctured mode count (deinterleaved count step (descrambled from (take count air))) (take (4 * n) work)
+    → take (4 * n) (made ++ drop (4 * n) work) ≡ mother_by n k a start air
+symbols_made n k a start mode count step from air work made p q r s blank was = front (4 * n) made work size ∙ is
   where
-    front_kept : take (count + 16) word' ≡ take (count + 16) (decoded control n symbols)
+    is : made ≡ mother_by n k a start air
+    is = was ∙ rw (p, q, r, s) (ap (depunctured 0 k (deinterleaved k a (descrambled start (take k air)))) blank)
+
+    size : length made ≡ 4 * n
+    size =
+        ap length is ∙ scatter_length (kept_place 0) k (deinterleaved k a (descrambled start (take k air))) (replicate (4 * n) ERASED)
+        ∙ length-replicate (4 * n) ERASED
+
+-- ---- the decoder's word is judged by its data and check
+pub settled : (d n : ℕ) (symbols word word' trellis trellis' : List ℕ) (value : ℕ) → d + 20 ≡ n → Finds control n symbols word word' trellis trellis' value
+    → (answer : Received) → answer ≡ checked (eqb (register 0xffff (take (d + 16) word')) OK) (record { disagreements = value })
+    → Settles d n symbols word trellis answer word' trellis'
+settled d n symbols word word' trellis trellis' value tail does answer e =
+    record {
+      answers = e ∙ ap₂ (λ (w : List ℕ) (x : ℕ). checked (eqb (register 0xffff w) OK) (record { disagreements = x })) front_kept does.counts;
+      writes = does.writes;
+      clears = does.clears;
+    }
+  where
+    front_kept : take (d + 16) word' ≡ take (d + 16) (decoded control n symbols)
     front_kept =
-        ap (take (count + 16)) does.writes
-        ∙ take-append-le (count + 16) (decoded control n symbols) (drop (length (decoded control n symbols)) word)
+        ap (take (d + 16)) does.writes
+        ∙ take-append-le (d + 16) (decoded control n symbols) (drop (length (decoded control n symbols)) word)
         (omega (arith, nearest_length (disagreements control n symbols) n))
 
--- the mother symbols stand over the front of erasures
-module _ (kind start : ℕ) (air word trellis : List ℕ) (d n k a : ℕ) (ok : receive_refusal kind (length air) (length word) (length trellis) ≡ accepted)
-    (is : Numbers kind d n k a) (work made : List ℕ) (blank : take (4 * n) work ≡ replicate (4 * n) ERASED)
-    (was : made ≡ depunctured 0 k (deinterleaved k a (descrambled start (take k air))) (take (4 * n) work)) where
-  made_is : made ≡ mother kind start air
+-- ---- a kind's numbers are the kind's
+module _ (kind d n k a start : ℕ) (is : Numbers kind d n k a) where
+  pub sent_is : (w : List ℕ) → sent_by k a start w ≡ sent kind start w
+  unfolding sent coded
+  sent_is w = ap₂ (λ (x y : ℕ). sent_by x y start w) is.air is.step
+
+  pub mother_is : (air : List ℕ) → mother_by n k a start air ≡ mother kind start air
   unfolding mother coded_from
-  made_is =
-      was ∙ ap (depunctured 0 k (deinterleaved k a (descrambled start (take k air)))) blank
-      ∙ ap₂ (λ (x y : ℕ). depunctured 0 x (deinterleaved x y (descrambled start (take x air))) (replicate (4 * n) ERASED)) is.air is.step
-      ∙ ap (λ (x : ℕ). depunctured 0 (air_symbols kind) (coded_from kind start air) (replicate (4 * x) ERASED)) is.word
+  mother_is air =
+      ap₂ (λ (x y : ℕ). mother_by n x y start air) is.air is.step ∙ ap (λ (x : ℕ). mother_by x (air_symbols kind) (interleaver_step kind) start air) is.word
 
-  pub made_size : length made ≡ 4 * n
-  made_size = ap length made_is ∙ mother_length kind start air ∙ ap (λ (x : ℕ). 4 * x) (sym is.word)
+  -- what was sent over the front of a target
+  pub sent_over : (block air new : List ℕ) → new ≡ sent_by k a start (word_of (take d block)) → new ++ drop k air ≡ written (sent kind start (word_of (take (data_bits kind) block))) air
+  sent_over block air new e =
+      ap₂ (λ (x : List ℕ) (y : ℕ). x ++ drop y air)
+      (e ∙ sent_is (word_of (take d block)) ∙ ap (λ (x : ℕ). sent kind start (word_of (take x block))) is.block)
+      (is.air ∙ sym (sent_length kind start (word_of (take (data_bits kind) block))))
 
-  symbols_are : take (4 * n) (made ++ drop (4 * n) work) ≡ mother kind start air
-  symbols_are = front (4 * n) made work made_size ∙ made_is
-
-  pub receives_made : (answer : Received) (word' trellis' : List ℕ)
-      → (answer ≡ checked (eqb (register 0xffff (take (d + 16) (decoded control n (take (4 * n) (made ++ drop (4 * n) work))))) OK)
-      (record { disagreements = disagreements control n (take (4 * n) (made ++ drop (4 * n) work)) (decoded control n (take (4 * n) (made ++ drop (4 * n) work))) }))
-      × (word' ≡ written (decoded control n (take (4 * n) (made ++ drop (4 * n) work))) word) × (trellis' ≡ cleared n trellis)
-      → Receives kind start air word trellis answer word' trellis'
+  -- what is received
+  pub receives : (air word trellis : List ℕ) {word' trellis' : List ℕ} {answer : Received} → receive_refusal kind (length air) (length word) (length trellis) ≡ accepted
+      → Settles d n (mother_by n k a start air) word trellis answer word' trellis' → Receives kind start air word trellis (Ok answer) word' trellis'
   unfolding word_from counts_of good
-  receives_made answer word' trellis' e =
+  receives air word trellis ok s =
       receives_done (good kind (word_from kind start air)) (counts_of kind start air) ok (
-        e.0
-            ∙ ap₂ (λ (m : List ℕ) (x : ℕ). checked (eqb (register 0xffff (take (d + 16) (decoded control x m))) OK) (record { disagreements = disagreements control x m (decoded control x m) })) symbols_are is.word
+        s.answers
+            ∙ ap₂ (λ (m : List ℕ) (x : ℕ). checked (eqb (register 0xffff (take (d + 16) (decoded control x m))) OK) (record { disagreements = disagreements control x m (decoded control x m) })) (mother_is air) is.word
             ∙ ap (λ (x : ℕ). checked (eqb (register 0xffff (take (x + 16) (word_from kind start air))) OK) (counts_of kind start air)) is.block,
-        e.1 ∙ ap₂ (λ (m : List ℕ) (x : ℕ). written (decoded control x m) word) symbols_are is.word,
-        e.2 ∙ ap (λ (x : ℕ). cleared x trellis) is.word,
+        s.writes ∙ ap₂ (λ (m : List ℕ) (x : ℕ). written (decoded control x m) word) (mother_is air) is.word,
+        s.clears ∙ ap (λ (x : ℕ). cleared x trellis) is.word,
       )

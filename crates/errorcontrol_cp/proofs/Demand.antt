@@ -5,13 +5,16 @@ use mathlib.Core.List.{List, ◌++◌}
 use mathlib.Core.Bool.{Bool, true, false}
 use Prim.Native.Nat.{ℕ, ◌+◌, ◌*◌, ◌≤◌, ◌<◌}
 use native.Mathlib.Omega.{arith}
+use Rattle.std.specs.Prelude.{Result, Ok}
 use lib.ListN.{length, take, drop, replicate, length-drop, length-replicate}
 use lib.Seq.{take-append-le, drop-append-le}
 use Rattle.base.specs.declared.Counts.{Counts}
 use Rattle.base.specs.Bits.{Bits, ERASED}
 use Rattle.base.specs.Places.{written}
 use Rattle.base.specs.private.Places.{Within}
+use Rattle.base.specs.declared.Received.{Received}
 use Rattle.base.specs.declared.Received.TheVariants.{Good}
+use Rattle.base.specs.declared.Refusal.{Refusal}
 use Rattle.base.specs.Refusal.{accepted, checked}
 use Rattle.base.proofs.Moves.{Onto, scatter_length}
 use Rattle.trellis.proofs.Winners.{nearest_length, nearest_bits}
@@ -85,7 +88,7 @@ decode_cp_right kind start =
     (λ air. disagreements control (word_bits kind) (mother kind start air))
     (bits_lawful (word_bits kind) (air_symbols kind) (place (air_symbols kind) (interleaver_step kind)) (sent kind start) (λ air. air) (sent_bits kind start))
     (λ air word trellis ok. let a = receive_accepts kind (length air) word trellis ok in
-    weighs (passage kind a.known start) (λ l. l) air (mother kind start air) (arrival kind a.known start air a.long))
+    weighs (passage kind a.known start) (λ l. l) air (mother kind start air) (arrival kind a.known start air a.fits.long))
     (λ air. refl) (λ air. refl)
 
 -- ---- the walk back
@@ -101,12 +104,12 @@ decoded_bits : (kind start : ℕ) (air : List ℕ) → Bits (word_from kind star
 unfolding word_from
 decoded_bits kind start air = nearest_bits (disagreements control (word_bits kind) (mother kind start air)) (word_bits kind)
 
-agreed : (g : Bool) (c d : Counts) → Good c ≡ checked g d → g ≡ true
+agreed : (g : Bool) (c d : Counts) → ◌≡◌ {A = Result Received Refusal} (Ok (Good c)) (Ok (checked g d)) → g ≡ true
 agreed true c d e = refl
-agreed false c d e = let z : ◌≡◌ {A = ℕ} 0 1 = cc in absurd (omega arith)
+agreed false c d e = absurd cc
 
 -- Good says that the 16 entries written after the data are the check of the data written; `check_good` is the other way
-pub good_checks : (kind start : ℕ) (air word trellis word' trellis' : List ℕ) (counts : Counts) → Receives kind start air word trellis (Good counts) word' trellis'
+pub good_checks : (kind start : ℕ) (air word trellis word' trellis' : List ℕ) (counts : Counts) → Receives kind start air word trellis (Ok (Good counts)) word' trellis'
     → take 16 (drop (data_bits kind) word') ≡ check (take (data_bits kind) word')
 good_checks kind start air word trellis word' trellis' counts r =
     ap (λ (l : List ℕ). take 16 (drop d l)) is ∙ ap (take 16) (drop-append-le d w rest (omega (arith, long))) ∙ take-append-le 16 (drop d w) rest (omega (arith, long, length-drop d w))

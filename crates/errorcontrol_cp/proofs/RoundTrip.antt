@@ -5,11 +5,12 @@ use mathlib.Core.List.{List}
 use mathlib.Core.Bool.{Bool, true}
 use Prim.Native.Nat.{ℕ, ◌≤◌}
 use native.Mathlib.Omega.{arith}
+use Rattle.std.specs.Prelude.{Result, Ok}
 use lib.ListN.{length, take, drop, get_or}
 use lib.Seq.{take_at, length-take-le, get_or-take}
 use Rattle.base.specs.declared.Counts.{Counts}
-use Rattle.base.specs.declared.Outcome.TheVariants.{Done}
 use Rattle.base.specs.declared.Received.{Received}
+use Rattle.base.specs.declared.Refusal.{Refusal}
 use Rattle.base.specs.declared.Received.TheVariants.{Good}
 use Rattle.base.specs.Refusal.{accepted, checked}
 use Rattle.base.specs.Places.{written}
@@ -48,8 +49,8 @@ module _ (kind : ℕ) (known : is_kind kind ≡ true) (start : ℕ) (w air : Lis
 
 -- ---- a whole block
 -- what was sent and done, received under the same start, is Good, disagrees with nothing, and is the word of the data
-module _ (kind start : ℕ) (block air air' word word' trellis trellis' : List ℕ) (answer : Received)
-    (sends : Sends kind start block air Done air') (room : word_bits kind ≤ length word) (steps : word_bits kind ≤ length trellis)
+module _ (kind start : ℕ) (block air air' word word' trellis trellis' : List ℕ) (answer : Result Received Refusal)
+    (sends : Sends kind start block air accepted air') (room : word_bits kind ≤ length word) (steps : word_bits kind ≤ length trellis)
     (receives : Receives kind start air' word trellis answer word' trellis') where
   used : List ℕ
   used = take (data_bits kind) block
@@ -63,10 +64,10 @@ module _ (kind start : ℕ) (block air air' word word' trellis trellis' : List �
 
   used_length : length used ≡ data_bits kind
   unfolding used
-  used_length = length-take-le (data_bits kind) block sendable.long
+  used_length = length-take-le (data_bits kind) block sendable.fits.long
 
   air_length : length air' ≡ length air
-  air_length = ap length done.1 ∙ written_length (sent kind start (word_of used)) air (omega (arith, sent_length kind start (word_of used), sendable.room))
+  air_length = ap length done.1 ∙ written_length (sent kind start (word_of used)) air (omega (arith, sent_length kind start (word_of used), sendable.fits.room))
 
   as_sent : take (air_symbols kind) air' ≡ sent kind start (word_of used)
   as_sent =
@@ -82,22 +83,22 @@ module _ (kind start : ℕ) (block air air' word word' trellis trellis' : List �
 
   candidate : Candidate (word_bits kind) (word_of used)
   unfolding used
-  candidate = word_candidate kind (row kind sendable.known) used (bits_only_bits (data_bits kind) block sendable.plain) used_length
+  candidate = word_candidate kind (row kind sendable.known) used (bits_only_bits (data_bits kind) block sendable.fits.plain) used_length
 
   back : word_from kind start air' ≡ word_of used
-  back = word_back kind sendable.known start (word_of used) air' candidate (omega (arith, air_length, sendable.room)) clean
+  back = word_back kind sendable.known start (word_of used) air' candidate (omega (arith, air_length, sendable.fits.room)) clean
 
   none : counts_of kind start air' ≡ record { disagreements = 0 }
-  none = none_disagree kind sendable.known start (word_of used) air' candidate (omega (arith, air_length, sendable.room)) clean
+  none = none_disagree kind sendable.known start (word_of used) air' candidate (omega (arith, air_length, sendable.fits.room)) clean
 
-  heard : (answer ≡ checked (good kind (word_from kind start air')) (counts_of kind start air')) × (word' ≡ written (word_from kind start air') word)
+  heard : (answer ≡ Ok (checked (good kind (word_from kind start air')) (counts_of kind start air'))) × (word' ≡ written (word_from kind start air') word)
   heard =
       received_done (good kind (word_from kind start air')) (counts_of kind start air') receives
-      (sym (receive_none kind (length air') (length word) (length trellis) sendable.known (omega (arith, air_length, sendable.room)) room steps))
+      (sym (receive_none kind (length air') (length word) (length trellis) sendable.known (omega (arith, air_length, sendable.fits.room)) room steps))
 
-  pub round_trip_answer : answer ≡ Good (record { disagreements = 0 })
+  pub round_trip_answer : answer ≡ Ok (Good (record { disagreements = 0 }))
   round_trip_answer =
-      heard.0 ∙ ap₂ (λ (t : Bool) (c : Counts). checked t c) (ap (good kind) back ∙ word_good kind used used_length) none
+      heard.0 ∙ ap₂ (λ (t : Bool) (c : Counts). Ok (checked t c)) (ap (good kind) back ∙ word_good kind used used_length) none
 
   pub round_trip_word : word' ≡ written (word_of (take (data_bits kind) block)) word
   unfolding used

@@ -1,9 +1,10 @@
 -- Receiving a control block: the stages of sending undone in reverse, with every place that puncturing dropped an erasure.
 -- Assumes nothing.
-use Rattle.std.specs.Prelude.{List, Bool, not, ℕ, ◌+◌, ◌*◌, ltb, eqb, length, take, replicate}
+use Rattle.std.specs.Prelude.{Result, List, Bool, not, ℕ, ◌+◌, ◌*◌, ltb, eqb, length, take, replicate}
 use Rattle.base.specs.declared.Counts.{Counts}
 use Rattle.base.specs.declared.Received.{Received}
-use Rattle.base.specs.Refusal.{ROOM, KIND, accepted, when, sized, reception}
+use Rattle.base.specs.declared.Refusal.{Refusal}
+use Rattle.base.specs.Refusal.{Owed, ROOM, KIND, accepted, when, sized, reception}
 use Rattle.base.specs.Bits.{ERASED}
 use Rattle.crc16.specs.Crc.{register, OK}
 use Rattle.convenc.specs.Generators.{control}
@@ -34,15 +35,15 @@ counts_of kind start air = record { disagreements = disagreements control (word_
 unfoldable pub good : ℕ → List ℕ → Bool
 good kind w = eqb (register 0xffff (take (data_bits kind + 16) w)) OK
 
-abbrev pub receive_refusal : ℕ → ℕ → ℕ → ℕ → ℕ
+abbrev pub receive_refusal : ℕ → ℕ → ℕ → ℕ → Owed
 receive_refusal kind air word trellis =
     when (not (is_kind kind)) KIND
     (sized air (air_symbols kind) word (word_bits kind) (when (ltb trellis (word_bits kind)) ROOM accepted))
 
 -- what `decode_cp` answers, where its target and its trellis have so many entries
-abbrev pub answer_of : ℕ → ℕ → List ℕ → ℕ → ℕ → Received
+abbrev pub answer_of : ℕ → ℕ → List ℕ → ℕ → ℕ → Result Received Refusal
 answer_of kind start air word trellis = reception (receive_refusal kind (length air) word trellis) (good kind (word_from kind start air)) (counts_of kind start air)
 
 -- and what it leaves in them
-abbrev pub Receives : ℕ → ℕ → List ℕ → List ℕ → List ℕ → Received → List ℕ → List ℕ → Type 0
+abbrev pub Receives : ℕ → ℕ → List ℕ → List ℕ → List ℕ → Result Received Refusal → List ℕ → List ℕ → Type 0
 Receives kind start air = ReceiveEntry (receive_refusal kind (length air)) (answer_of kind start air) (word_from kind start air) (word_bits kind)

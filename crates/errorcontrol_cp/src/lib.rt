@@ -4,199 +4,206 @@
 // disagreements. A caller gets the word whose sending is nearest to what was received, and whether its check agrees.
 #![tactic(auto)]
 
-ghost use Rattle.std.specs.Prelude.{◌≡◌, true, ◌+◌, ◌*◌, ◌≤◌, eqb, length, take, replicate};
-ghost use Rattle.base.specs.Refusal.{accepted, checked};
+ghost use Rattle.std.specs.Prelude.{◌≡◌, true, false, not, ◌+◌, ◌*◌, ◌≤◌, eqb, length, replicate, MatchResult, ltb};
+ghost use Rattle.base.specs.Refusal.{BIT, ROOM, KIND, accepted, when, sized, checked};
 ghost use Rattle.base.specs.Bits.{bits_only};
-ghost use Rattle.base.specs.Places.{written};
 ghost use Rattle.trellis.specs.Nearest.{encode};
 ghost use Rattle.crc16.specs.Crc.{register, OK};
 ghost use Rattle.convenc.specs.Generators.{control, outputs};
-ghost use Rattle.viterbi.specs.Decoding.{decoded, disagreements, cleared};
-ghost use Rattle.errorcontrol_cp.specs.Kinds.{is_kind, data_bits};
-ghost use Rattle.errorcontrol_cp.specs.private.Kinds.{Numbers};
-ghost use Rattle.errorcontrol_cp.specs.Sending.{word_of, sent, send_refusal, Sends};
-ghost use Rattle.errorcontrol_cp.specs.Receiving.{receive_refusal, Receives};
+ghost use Rattle.puncturing.specs.Puncturing.{needed};
+ghost use Rattle.interleaver.specs.Interleaving.{shared};
+ghost use Rattle.errorcontrol_cp.specs.private.Kinds.{Numbers, IsUnknown};
+ghost use Rattle.errorcontrol_cp.specs.private.Blocks.{sent_by, mother_by, Settles};
+ghost use Rattle.errorcontrol_cp.specs.Sending.{word_of, Sends};
+ghost use Rattle.errorcontrol_cp.specs.Receiving.{Receives};
 
-use base::{BIT, Counts, KIND, Outcome, ROOM, Received, SHORT};
-
-// A control kind's counts: data bits, word bits, air symbols, and the interleaver's a.
-#[derive(Drop)]
-struct Params {
-    data: usize,
-    word: usize,
-    air: usize,
-    a: usize,
-}
-
-// EN 300 392-2, 8.3.1, a row for each kind from 1: data, word, air, a.
-const KINDS: [[usize; 4]; 4] = [
-    [60, 80, 120, 11],
-    [92, 112, 168, 13],
-    [124, 144, 216, 101],
-    [268, 288, 432, 103],
-];
+use base::{Counts, Received, Refusal};
+use stages::inner::Block;
 
 // Puncturing mode 2_3.
 const MODE: u8 = 0;
 
-fn get_params(kind: u8) -> Params
-    requires { is_kind kind ≡ true }
-    ensures { Numbers kind result.«data» result.word result.air result.a }
+// A control kind's counts: data bits, word bits, air symbols, and the interleaver's step.
+#[derive(Clone, Copy)]
+struct Params {
+    block: usize,
+    word: usize,
+    air: usize,
+    step: usize,
+    // Data, 16 check bits and 4 zeros.
+    ghost tail: { word ≡ block + 20 },
+    ghost most: { block ≤ 268 },
+    ghost few: { air ≤ 432 },
+    ghost small: { step ≤ 65535 },
+    ghost alone: { shared air step ≡ false },
+    ghost reach: { needed 0 air ≤ 4 * word },
+}
+
+// EN 300 392-2, 8.3.1, by kind.
+#[tactic(auto, unfolding(interleaver::specs::Interleaving::shared, puncturing::specs::Puncturing::needed, puncturing::specs::Puncturing::position, crate::specs::Kinds::is_kind, crate::specs::Kinds::data_bits, crate::specs::Kinds::word_bits, crate::specs::Kinds::air_symbols, crate::specs::Kinds::interleaver_step))]
+fn get_params(kind: u8) -> Result<Params, Refusal>
+    ensures { MatchResult result (λ p. Numbers kind p.block p.word p.air p.step) (IsUnknown kind) }
 {
-    let row = KINDS[kind as usize - 1];
-    Params {
-        data: row[0],
-        word: row[1],
-        air: row[2],
-        a: row[3],
+    match kind {
+        1 => Ok(Params {
+            block: 60,
+            word: 80,
+            air: 120,
+            step: 11,
+        }),
+        2 => Ok(Params {
+            block: 92,
+            word: 112,
+            air: 168,
+            step: 13,
+        }),
+        3 => Ok(Params {
+            block: 124,
+            word: 144,
+            air: 216,
+            step: 101,
+        }),
+        4 => Ok(Params {
+            block: 268,
+            word: 288,
+            air: 432,
+            step: 103,
+        }),
+        _ => Err(Refusal::Kind),
     }
 }
 
-// Which refusal sending owes, 0 for none.
-fn send_refusal(kind: u8, data: &[u8], air: usize) -> u8
-    ensures { result ≡ send_refusal kind «data».now air }
+// The word of data over a target of zeros: data, check, and four of the zeros.
+fn write_word(data: &[u8], word: &mut [u8])
+    requires { word.old ≡ replicate (length «data».now + 20) 0 }
+    ensures { word.new ≡ word_of «data».now }
 {
-    if kind == 0 {
-        return KIND;
-    }
-    if 4 < kind {
-        return KIND;
-    }
-    let params = get_params(kind);
-    let count = params.data;
-    if data.len() < count {
-        return SHORT;
-    }
-    if air < params.air {
-        return ROOM;
-    }
-    if base::inner::bits_only(data, count) {
-        return 0;
-    }
-    BIT
-}
-
-// The data's word over a target of zeros: data, check, and four of the zeros.
-fn write_word(count: usize, data: &[u8], word: &mut [u8])
-    requires { (count ≤ length «data».now) × (count ≤ 268) × (word.old ≡ replicate (count + 20) 0) }
-    ensures { word.new ≡ word_of (take count «data».now) }
-{
-    base::inner::copy(data, &mut word[..count]);
-    crc16::inner::write_check(data, count, &mut word[count..]);
+    let count = data.len();
+    word[..count].copy_from_slice(data);
+    crc16::inner::write_check(data, &mut word[count..]);
 }
 
 // The mother code of the data's word, over the whole target.
-fn encode_word(count: usize, data: &[u8], mother: &mut [u8])
-    requires { (count ≤ length «data».now) × (count ≤ 268) × (bits_only count «data».now ≡ true) × (length mother.old ≡ 4 * (count + 20)) }
-    ensures { mother.new ≡ encode (outputs control) 0 (word_of (take count «data».now)) }
+fn encode_word(data: &[u8], mother: &mut [u8])
+    requires { (length «data».now ≤ 268) × (bits_only (length «data».now) «data».now ≡ true) × (length mother.old ≡ 4 * (length «data».now + 20)) }
+    ensures { mother.new ≡ encode (outputs control) 0 (word_of «data».now) }
 {
     let mut word = [0u8; 288];
-    let n = count + 20;
-    write_word(count, data, &mut word[..n]);
+    let n = data.len() + 20;
+    write_word(data, &mut word[..n]);
     convenc::ConvEncState::new().encode(&word[..n], mother);
 }
 
-// The air symbols of the data's word, over the front of the target.
-fn send(kind: u8, start: u32, data: &[u8], air: &mut [u8])
-    requires { send_refusal kind «data».now (length air.old) ≡ accepted }
-    ensures { air.new ≡ written (sent kind start (word_of (take (data_bits kind) «data».now))) air.old }
-{
-    let params = get_params(kind);
-    let symbols = 4 * params.word;
-    let k = params.air;
-    let mut mother = [0u8; 1152];
-    encode_word(params.data, data, &mut mother[..symbols]);
-    stages::inner::put_on_air(MODE, k, params.a, start, &mother[..symbols], &mut air[..k]);
-}
-
-// Sends a data block as the air symbols of its kind, scrambled from start. Refusals: KIND, SHORT, ROOM, BIT.
-pub fn encode_cp(kind: u8, start: u32, data: &[u8], air: &mut [u8]) -> Outcome
-    ensures { Sends kind start «data».now air.old result air.new }
-{
-    let refusal = send_refusal(kind, data, air.len());
-    if refusal != 0 {
-        return Outcome::Refused(refusal);
-    }
-    send(kind, start, data, air);
-    Outcome::Done
-}
-
-// Which refusal receiving owes, 0 for none.
-fn receive_refusal(kind: u8, air: usize, word: usize, trellis: usize) -> u8
-    ensures { result ≡ receive_refusal kind air word trellis }
-{
-    if kind == 0 {
-        return KIND;
-    }
-    if 4 < kind {
-        return KIND;
-    }
-    let params = get_params(kind);
-    if air < params.air {
-        return SHORT;
-    }
-    if word < params.word {
-        return ROOM;
-    }
-    if trellis < params.word {
-        return ROOM;
-    }
-    0
-}
-
-// Whether the check agrees, over the first count entries and the 16 after them.
-fn judge(count: usize, word: &[u8], disagreements: usize) -> Received
-    requires { count ≤ 268 }
-    ensures { result ≡ checked (eqb (register 0xffff (take (count + 16) word.now)) OK) (record { disagreements = disagreements }) }
+// What the register over data and check says.
+fn judge(bits: &[u8], disagreements: usize) -> Received
+    ensures { result ≡ checked (eqb (register 0xffff bits.now) OK) (record { disagreements = disagreements }) }
 {
     let counts = Counts { disagreements };
-    if crc16::crc16_ccitt_bits(word, count + 16) == crc16::TETRA_CRC_OK {
+    if crc16::crc16_ccitt_bits(bits, bits.len()) == crc16::TETRA_CRC_OK {
         Received::Good(counts)
     } else {
         Received::Bad(counts)
     }
 }
 
-// The nearest word to n steps of mother symbols, over the front of the target, and what its check says.
-fn settle(count: usize, n: usize, mother: &[u8], word: &mut [u8], trellis: &mut [u16]) -> Received
-    requires { (count ≤ 268) × (count + 20 ≡ n) × (length mother.now ≡ 4 * n) × (n ≤ length word.old) × (n ≤ length trellis.old) }
-    ensures { (result ≡ checked (eqb (register 0xffff (take (count + 16) (decoded control n mother.now))) OK)
-        (record { disagreements = disagreements control n mother.now (decoded control n mother.now) }))
-        × (word.new ≡ written (decoded control n mother.now) word.old)
-        × (trellis.new ≡ cleared n trellis.old) }
-{
-    let disagreements = viterbi::inner::control(mother, word, n, trellis);
-    judge(count, word, disagreements)
+impl Params {
+    // How a block goes onto the air and comes off it.
+    fn on_air(self, start: u32) -> Block
+        ensures { (result.mode ≡ 0) × (result.count ≡ self.air) × (result.step ≡ self.step) × (result.start ≡ start) }
+    {
+        Block {
+            mode: MODE,
+            count: self.air,
+            step: self.step,
+            start,
+        }
+    }
+
+    #[tactic(auto, using(base::proofs::BitLaws::bits_only_whole))]
+    fn send_refusal(self, data: &[u8], air: usize) -> Result<(), Refusal>
+        ensures { result ≡ sized (length «data».now) self.block air self.air (when (not (bits_only self.block «data».now)) BIT accepted) }
+    {
+        if data.len() < self.block {
+            return Err(Refusal::Short);
+        }
+        if air < self.air {
+            return Err(Refusal::Room);
+        }
+        if base::inner::bits_only(&data[..self.block]) {
+            return Ok(());
+        }
+        Err(Refusal::Bit)
+    }
+
+    // The air symbols of the data's word, over the whole target.
+    fn send(self, start: u32, data: &[u8], air: &mut [u8])
+        requires { (length «data».now ≡ self.block) × (bits_only (length «data».now) «data».now ≡ true) × (length air.old ≡ self.air) }
+        ensures { air.new ≡ sent_by self.air self.step start (word_of «data».now) }
+    {
+        let symbols = 4 * self.word;
+        let mut mother = [0u8; 1152];
+        encode_word(data, &mut mother[..symbols]);
+        self.on_air(start).put_on_air(&mother[..symbols], air);
+    }
+
+    fn receive_refusal(self, air: usize, word: usize, trellis: usize) -> Result<(), Refusal>
+        ensures { result ≡ sized air self.air word self.word (when (ltb trellis self.word) ROOM accepted) }
+    {
+        if air < self.air {
+            return Err(Refusal::Short);
+        }
+        if word < self.word {
+            return Err(Refusal::Room);
+        }
+        if trellis < self.word {
+            return Err(Refusal::Room);
+        }
+        Ok(())
+    }
+
+    // The nearest word to the mother symbols, over the front of the target, and what its check says.
+    fn settle(self, mother: &[u8], word: &mut [u8], trellis: &mut [u16]) -> Received
+        requires { (length mother.now ≡ 4 * self.word) × (self.word ≤ length word.old) × (self.word ≤ length trellis.old) }
+        ensures { Settles self.block self.word mother.now word.old trellis.old result word.new trellis.new }
+    {
+        let disagreements = viterbi::inner::control(mother, word, self.word, trellis);
+        judge(&word[..self.block + 16], disagreements)
+    }
+
+    // The nearest word to the air symbols, over the front of the target, and what its check says.
+    fn receive(self, start: u32, air: &[u8], word: &mut [u8], trellis: &mut [u16]) -> Received
+        requires { (self.air ≤ length air.now) × (self.word ≤ length word.old) × (self.word ≤ length trellis.old) }
+        ensures { Settles self.block self.word (mother_by self.word self.air self.step start air.now) word.old trellis.old result word.new trellis.new }
+    {
+        let symbols = 4 * self.word;
+        let mut mother = [0xffu8; 1152];
+        self.on_air(start).take_off_air(air, &mut mother[..symbols]);
+        self.settle(&mother[..symbols], word, trellis)
+    }
 }
 
-// The nearest word to the air symbols, over the front of the target, and what its check says.
-fn receive(kind: u8, start: u32, air: &[u8], word: &mut [u8], trellis: &mut [u16]) -> Received
-    requires { receive_refusal kind (length air.now) (length word.old) (length trellis.old) ≡ accepted }
-    ensures { Receives kind start air.now word.old trellis.old result word.new trellis.new }
+// Sends a data block as the air symbols of its kind, scrambled from start. Refusals: KIND, SHORT, ROOM, BIT.
+pub fn encode_cp(kind: u8, start: u32, data: &[u8], air: &mut [u8]) -> Result<(), Refusal>
+    ensures { Sends kind start «data».now air.old result air.new }
 {
-    let params = get_params(kind);
-    let n = params.word;
-    let symbols = 4 * n;
-    let mut mother = [0xffu8; 1152];
-    stages::inner::take_off_air(
-        MODE,
-        params.air,
-        params.a,
-        start,
-        air,
-        &mut mother[..symbols],
-    );
-    settle(params.data, n, &mother[..symbols], word, trellis)
+    let params = get_params(kind)?;
+    params.send_refusal(data, air.len())?;
+    params.send(start, &data[..params.block], &mut air[..params.air]);
+    Ok(())
 }
 
 // Receives the air symbols of a block of its kind, scrambled from start: the whole decoded word, Good or Bad, with its
 // disagreements. The trellis is work space, as long as the word, and is zero afterwards. Refusals: KIND, SHORT, ROOM.
-pub fn decode_cp(kind: u8, start: u32, air: &[u8], word: &mut [u8], trellis: &mut [u16]) -> Received
+pub fn decode_cp(
+    kind: u8,
+    start: u32,
+    air: &[u8],
+    word: &mut [u8],
+    trellis: &mut [u16],
+) -> Result<Received, Refusal>
     ensures { Receives kind start air.now word.old trellis.old result word.new trellis.new }
 {
-    let refusal = receive_refusal(kind, air.len(), word.len(), trellis.len());
-    if refusal != 0 {
-        return Received::Refused(refusal);
-    }
-    receive(kind, start, air, word, trellis)
+    let params = get_params(kind)?;
+    params.receive_refusal(air.len(), word.len(), trellis.len())?;
+    Ok(params.receive(start, air, word, trellis))
 }

@@ -5,4 +5,4 @@ use Rattle.errorcontrol_cp.proofs.write_word.Goals as goal
 pub returns : goal.returns
 returns c =
     let a = c.args in
-    word_made a.count a.«data».now a.word.now c.copy.new.target c.requires.0 c.requires.2 c.copy.ensures c.write_check.new.target c.write_check.ensures
+    word_made a.«data».now a.word.now c.copy_from_slice.new.self c.requires c.copy_from_slice.ensures.after c.write_check.new.target c.write_check.ensures
