@@ -1,19 +1,21 @@
 -- The two chains step by step: what their callees leave makes what the definitions say.
 -- Assumes nothing.
-use mathlib.Core.Path.{◌≡◌, refl, sym, ap, ap₂, ◌∙◌, subst}
+use mathlib.Core.Path.{◌≡◌, sym, ap, ap₂, ◌∙◌, subst}
 use mathlib.Core.List.{List, ◌++◌}
-use mathlib.Core.Bool.{Bool, true, false, not}
+use mathlib.Core.Bool.{Bool, true, not}
 use Prim.Native.Nat.{ℕ, ◌≤◌}
 use native.Mathlib.Omega.{arith}
 use lib.ListN.{length, take, drop}
-use lib.Seq.{take_at, drop_at, take-length, length-take-le}
+use lib.Seq.{take_at, drop_at, length-take-le}
 use lib.Dec.{ltb}
-use borrow.Author.Tests.{ltb-false}
-use Rattle.base.specs.Refusal.{SHORT, ROOM, BIT, accepted, when}
+use borrow.Author.Tests.{ltb-false, le-ltb, not-false}
+use Rattle.base.specs.declared.Refusal.TheVariants.{Short, Room, Bit}
+use Rattle.base.specs.Refusal.{BIT, accepted, when}
+use Rattle.base.proofs.Refusals.{passed}
 use Rattle.base.specs.Bits.{Bits, bits_only}
 use Rattle.base.specs.Digits.{digits, number}
 use Rattle.base.specs.Places.{written}
-use Rattle.base.proofs.BitLaws.{bits_only_yes}
+use Rattle.base.proofs.BitLaws.{bits_only_yes, bits_only_whole}
 use Rattle.base.proofs.DigitLaws.{digits_length, digits_bits}
 use Rattle.base.proofs.Lists.{written_length}
 use Rattle.scrambler.specs.Scrambling.{scrambled, descrambled}
@@ -54,34 +56,29 @@ module _ (start : ℕ) (air block : List ℕ) (enough : 30 ≤ length air) (only
   pub block_length : length block ≡ 30
   block_length = ap length b ∙ descrambled_length start (take 30 air) ∙ length-take-le 30 air enough
 
-  pub block_only : bits_only 30 block ≡ true
+  pub block_only : bits_only (length block) block ≡ true
   block_only =
-      bits_only_yes 30 block
+      bits_only_yes (length block) block
       (subst Bits (sym (b ∙ descrambled_bits start (take 30 air) (front_bits 30 30 air only (omega arith) enough))) (scrambled_bits start (take 30 air)))
 
-  pub judged_received : (n : ℕ) (v : Verdict) → n ≡ number (take 30 block) → v ≡ verdict n → v ≡ verdict_from start air
+  pub judged_received : (n : ℕ) (v : Verdict) → n ≡ number block → v ≡ verdict n → v ≡ verdict_from start air
   unfolding verdict_from
-  judged_received n v e g =
-      let whole : take 30 block ≡ block = ap (λ (k : ℕ). take k block) (sym block_length) ∙ take-length block in
-      g ∙ ap verdict (e ∙ ap number (whole ∙ b))
+  judged_received n v e g = g ∙ ap verdict (e ∙ ap number b)
 
 -- ---- the refusals
 -- what is not refused has what the chain asks
 pub send_accepted : (bits : List ℕ) (room : ℕ) → send_refusal bits room ≡ accepted → (14 ≤ length bits) × (30 ≤ room) × (bits_only 14 bits ≡ true)
-send_accepted bits room e = go (ltb (length bits) 14) (ltb room 30) (bits_only 14 bits) refl refl refl e
-  where
-    go : (t u v : Bool) → ltb (length bits) 14 ≡ t → ltb room 30 ≡ u → bits_only 14 bits ≡ v
-        → when t SHORT (when u ROOM (when (not v) BIT accepted)) ≡ accepted → (14 ≤ length bits) × (30 ≤ room) × (bits_only 14 bits ≡ true)
-    go true u v p q r e = absurd (omega arith)
-    go false true v p q r e = absurd (omega arith)
-    go false false false p q r e = absurd (omega arith)
-    go false false true p q r e = (ltb-false (length bits) 14 p, ltb-false room 30 q, r)
+send_accepted bits room e =
+    let long = passed (ltb (length bits) 14) Short _ e in
+    let wide = passed (ltb room 30) Room _ long.1 in
+    (ltb-false (length bits) 14 long.0, ltb-false room 30 wide.0, not-false (bits_only 14 bits) (passed (not (bits_only 14 bits)) Bit accepted wide.1).0)
 
 pub receive_accepted : (air : List ℕ) → receive_refusal air ≡ accepted → (30 ≤ length air) × (bits_only 30 air ≡ true)
-receive_accepted air e = go (ltb (length air) 30) (bits_only 30 air) refl refl e
-  where
-    go : (t u : Bool) → ltb (length air) 30 ≡ t → bits_only 30 air ≡ u → when t SHORT (when (not u) BIT accepted) ≡ accepted
-        → (30 ≤ length air) × (bits_only 30 air ≡ true)
-    go true u p q e = absurd (omega arith)
-    go false false p q e = absurd (omega arith)
-    go false true p q e = (ltb-false (length air) 30 p, q)
+receive_accepted air e =
+    let long = passed (ltb (length air) 30) Short _ e in
+    (ltb-false (length air) 30 long.0, not-false (bits_only 30 air) (passed (not (bits_only 30 air)) Bit accepted long.1).0)
+
+-- the test of the front decides, where there is enough
+pub receive_by : (air : List ℕ) (plain : Bool) → 30 ≤ length air → plain ≡ bits_only (length (take 30 air)) (take 30 air)
+    → when (not plain) BIT accepted ≡ receive_refusal air
+receive_by air plain h e = simp (le-ltb (length air) 30 h) (ap (λ (t : Bool). when (not t) BIT accepted) (e ∙ bits_only_whole 30 air h))

@@ -38,11 +38,14 @@ front_lt n i s e h k =
     let l : 2 ^ length (take i s) ≡ 2 ^ i = ap (λ (x : ℕ). 2 ^ x) (length-take-le i s k) in
     omega (arith, l, number_lt (take i s) (front_bits n i s e h k))
 
+pub whole_lt : (s : List ℕ) → bits_only (length s) s ≡ true → number s < 2 ^ length s
+whole_lt s e = number_lt s (bits_of s (λ j l. bits_only_at (length s) j s e l l))
+
 -- what the loop holds fits 30 bits
-pub sum_fits : (n i sum : ℕ) (s : List ℕ) → n ≤ 30 → n ≤ length s → bits_only n s ≡ true → i < n → sum ≡ number (take i s) → sum * 2 + get_or s i 0 < 2 ^ 30
-sum_fits n i sum s h l e k f =
+pub sum_fits : (i sum : ℕ) (s : List ℕ) → length s ≤ 30 → bits_only (length s) s ≡ true → i < length s → sum ≡ number (take i s) → sum * 2 + get_or s i 0 < 2 ^ 30
+sum_fits i sum s h e k f =
     let m : 2 ^ (i + 1) ≤ 2 ^ 30 = pow_mono {i = i + 1} {j = 30} (omega arith) in
-    omega (arith, m, f, number_more s i (omega arith), front_lt n (i + 1) s e (omega arith) (omega arith))
+    omega (arith, m, f, number_more s i (omega arith), front_lt (length s) (i + 1) s e (omega arith) (omega arith))
 
 -- ---- a loop that writes a number
 pub digits_tabulate : (k n : ℕ) → digits k n ≡ tabulate (λ j. n / 2 ^ (k - 1 - j) % 2) k

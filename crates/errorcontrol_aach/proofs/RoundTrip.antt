@@ -10,7 +10,8 @@ use lib.Dec.{eqb}
 use lib.ListN.{length, take, drop, get_or, set, length-append, get_or-append}
 use lib.Seq.{ext_get_or, get_or-set_same, get_or-set_other, set-append_left, take_at}
 use borrow.Author.Tests.{eqb-true, eqb-false, lt-ltb, le-ltb}
-use Rattle.base.specs.Refusal.{SHORT, BIT, accepted, when}
+use Rattle.std.specs.Prelude.{Ok}
+use Rattle.base.specs.Refusal.{SHORT, BIT, accepted, when, valued}
 use Rattle.base.specs.Bits.{both, Bits, bits_only}
 use Rattle.base.specs.Digits.{digits, number}
 use Rattle.base.specs.Places.{written}
@@ -21,9 +22,8 @@ use Rattle.scrambler.specs.Scrambling.{output, descrambled_symbol, descrambled}
 use Rattle.scrambler.proofs.Outputs.{output_lt}
 use Rattle.scrambler.proofs.Blocks.{scrambled_length, scrambled_bits, descrambled_length, descrambled_at, descrambled_scrambled, descrambled_bits}
 use Rattle.rm3014.specs.Code.{code_word, data_of}
-use Rattle.rm3014.specs.Verdict.{verdict, judged}
+use Rattle.rm3014.specs.Verdict.{verdict}
 use Rattle.rm3014.specs.declared.Verdict.TheVariants.{Clean, Mended, Beyond}
-use Rattle.rm3014.specs.declared.Judged.TheVariants.{Is}
 use Rattle.rm3014.proofs.CodeLaws.{code_lt}
 use Rattle.rm3014.proofs.VerdictLaws as rm
 use Rattle.errorcontrol_aach.specs.Sending.{sent}
@@ -71,12 +71,12 @@ front_only zero air rest b e = refl
 front_only (suc n) [] rest b e = absurd (omega arith)
 front_only (suc n) (x ∷ air) rest b e = ap₂ both (lt-ltb x 2 b.0) (front_only n air rest b.1 (omega arith))
 
-answer_front : (start : ℕ) (air rest : List ℕ) → Bits air → length air ≡ 30 → answer_of start (air ++ rest) ≡ Is (verdict (number (descrambled start air)))
+answer_front : (start : ℕ) (air rest : List ℕ) → Bits air → length air ≡ 30 → answer_of start (air ++ rest) ≡ Ok (verdict (number (descrambled start air)))
 unfolding verdict_from
 answer_front start air rest b e =
-    ap₂ (λ (t u : Bool). judged (when t SHORT (when (not u) BIT accepted)) (verdict_from start (air ++ rest)))
+    ap₂ (λ (t u : Bool). valued (when t SHORT (when (not u) BIT accepted)) (verdict_from start (air ++ rest)))
     (le-ltb (length (air ++ rest)) 30 (omega (arith, length-append air rest))) (front_only 30 air rest b e)
-    ∙ ap (λ (l : List ℕ). Is (verdict (number (descrambled start l)))) (take_at air rest 30 e)
+    ∙ ap (λ (l : List ℕ). Ok (verdict (number (descrambled start l)))) (take_at air rest 30 e)
 
 number_received : (start p : ℕ) (air : List ℕ) → Bits air → length air ≡ 30 → 0 < p → p ≤ 30
     → number (descrambled start (flipped p air)) ≡ turned 30 p (number (descrambled start air))
@@ -107,24 +107,24 @@ module _ (start : ℕ) (bits old : List ℕ) (enough : 14 ≤ length bits) (only
       ∙ number_digits 30 (code_word (number (take 14 bits))) ∙ mod-eq_of_lt (code_lt (number (take 14 bits)) input_lt)
 
   -- what was sent is Clean, with its data
-  pub clean : answer_of start (written (sent start bits) old) ≡ Is (Clean (number (take 14 bits)))
+  pub clean : answer_of start (written (sent start bits) old) ≡ Ok (Clean (number (take 14 bits)))
   clean =
       answer_front start (sent start bits) (drop (length (sent start bits)) old) (sent_bits start bits) (sent_length start bits)
-      ∙ ap Is (ap verdict word_received ∙ rm.clean (number (take 14 bits)) input_lt)
+      ∙ ap Ok (ap verdict word_received ∙ rm.clean (number (take 14 bits)) input_lt)
 
   -- with the bit at place p wrong it is Mended there, with its data
-  pub mended : (p : ℕ) → 0 < p → p ≤ 30 → answer_of start (flipped p (written (sent start bits) old)) ≡ Is (Mended p (number (take 14 bits)))
+  pub mended : (p : ℕ) → 0 < p → p ≤ 30 → answer_of start (flipped p (written (sent start bits) old)) ≡ Ok (Mended p (number (take 14 bits)))
   mended p h k =
       let air = sent start bits in
       let rest = drop (length air) old in
       let b = sent_bits start bits in
       let l = sent_length start bits in
       ap (answer_of start) (flipped_front p air rest h (omega arith)) ∙ answer_front start (flipped p air) rest (flipped_bits p air b) (flipped_length p air ∙ l)
-      ∙ ap Is (ap verdict (number_received start p air b l h k ∙ ap (turned 30 p) word_received) ∙ rm.mended (number (take 14 bits)) p input_lt h k)
+      ∙ ap Ok (ap verdict (number_received start p air b l h k ∙ ap (turned 30 p) word_received) ∙ rm.mended (number (take 14 bits)) p input_lt h k)
 
   -- with two wrong bits it is Beyond, with the data bits as they were received
   pub beyond : (p q : ℕ) → 0 < p → p ≤ 30 → 0 < q → q ≤ 30 → (p ≡ q → ⊥)
-      → answer_of start (flipped q (flipped p (written (sent start bits) old))) ≡ Is (Beyond (data_of (turned 30 q (turned 30 p (code_word (number (take 14 bits)))))))
+      → answer_of start (flipped q (flipped p (written (sent start bits) old))) ≡ Ok (Beyond (data_of (turned 30 q (turned 30 p (code_word (number (take 14 bits)))))))
   beyond p q h k i j n =
       let air = sent start bits in
       let rest = drop (length air) old in
@@ -133,6 +133,6 @@ module _ (start : ℕ) (bits old : List ℕ) (enough : 14 ≤ length bits) (only
       let m = flipped_length p air ∙ l in
       ap (answer_of start) (ap (flipped q) (flipped_front p air rest h (omega arith)) ∙ flipped_front q (flipped p air) rest i (omega arith))
       ∙ answer_front start (flipped q (flipped p air)) rest (flipped_bits q (flipped p air) (flipped_bits p air b)) (flipped_length q (flipped p air) ∙ m)
-      ∙ ap Is (ap verdict (number_received start q (flipped p air) (flipped_bits p air b) m i j
+      ∙ ap Ok (ap verdict (number_received start q (flipped p air) (flipped_bits p air b) m i j
       ∙ ap (turned 30 q) (number_received start p air b l h k ∙ ap (turned 30 p) word_received))
       ∙ rm.beyond (number (take 14 bits)) p q input_lt h k i j n)

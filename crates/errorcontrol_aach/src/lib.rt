@@ -3,7 +3,7 @@
 // what does not fit is refused, and receiving answers the verdict with the data bits as a number.
 #![tactic(auto)]
 
-ghost use Rattle.std.specs.Prelude.{◌≡◌, true, ◌≤◌, ◌<◌, ◌^◌, length, take};
+ghost use Rattle.std.specs.Prelude.{◌≡◌, true, ◌≤◌, ◌<◌, ◌^◌, length};
 ghost use Rattle.base.specs.Bits.{bits_only};
 ghost use Rattle.base.specs.Digits.{digits, number};
 ghost use Rattle.base.specs.Places.{written};
@@ -11,39 +11,37 @@ ghost use Rattle.stages.specs.Entries.{SendEntry};
 ghost use Rattle.errorcontrol_aach.specs.Sending.{send_refusal, sent};
 ghost use Rattle.errorcontrol_aach.specs.Receiving.{receive_refusal, verdict_from, answer_of};
 
-use base::{BIT, Outcome, ROOM, SHORT};
-use rm3014::Judged;
+use base::Refusal;
+use rm3014::Verdict;
 
-// The number that the first n bits say.
-fn number_of(bits: &[u8], n: usize) -> u32
-    requires { (n ≤ 30) × (n ≤ length bits.now) × (bits_only n bits.now ≡ true) }
-    ensures { (result ≡ number (take n bits.now)) × (result < 2 ^ n) }
+// The number that the bits say.
+fn number_of(bits: &[u8]) -> u32
+    requires { (length bits.now ≤ 30) × (bits_only (length bits.now) bits.now ≡ true) }
+    ensures { (result ≡ number bits.now) × (result < 2 ^ length bits.now) }
 {
     let mut sum: u32 = 0;
-    let mut i: usize = 0;
-    while i < n {
-        sum = sum * 2 + bits[i] as u32;
-        i += 1;
+    for bit in bits {
+        sum = sum * 2 + *bit as u32;
     }
     sum
 }
 
 // ---- sending
 
-// Which refusal sending owes, 0 for none.
-fn send_refusal(data: &[u8], air: usize) -> u8
+// SHORT, ROOM and BIT, in this order.
+fn send_refusal(data: &[u8], air: usize) -> Result<(), Refusal>
     ensures { result ≡ send_refusal «data».now air }
 {
     if data.len() < 14 {
-        return SHORT;
+        return Err(Refusal::Short);
     }
     if air < 30 {
-        return ROOM;
+        return Err(Refusal::Room);
     }
-    if base::inner::bits_only(data, 14) {
-        return 0;
+    if base::inner::bits_only(&data[..14]) {
+        return Ok(());
     }
-    BIT
+    Err(Refusal::Bit)
 }
 
 // The 30 bits of a word over the front of air, the most significant first.
@@ -51,10 +49,8 @@ fn write_word(word: u32, air: &mut [u8])
     requires { 30 ≤ length air.old }
     ensures { air.new ≡ written (digits 30 word) air.old }
 {
-    let mut i: usize = 0;
-    while i < 30 {
+    for i in 0..30 {
         air[i] = ((word >> (29 - i)) & 1) as u8;
-        i += 1;
     }
 }
 
@@ -63,55 +59,49 @@ fn send(start: u32, data: &[u8], air: &mut [u8])
     requires { (14 ≤ length «data».now) × (30 ≤ length air.old) × (bits_only 14 «data».now ≡ true) }
     ensures { air.new ≡ written (sent start «data».now) air.old }
 {
-    let word = rm3014::inner::code_word(number_of(data, 14) as u16);
+    let word = rm3014::inner::code_word(number_of(&data[..14]) as u16);
     write_word(word, air);
     stages::inner::scramble(start, &mut air[..30]);
 }
 
 // Sends 14 data bits as 30 air bits, scrambled from start. Refusals: SHORT, ROOM, BIT.
-pub fn encode_aach(start: u32, data: &[u8], air: &mut [u8]) -> Outcome
+pub fn encode_aach(start: u32, data: &[u8], air: &mut [u8]) -> Result<(), Refusal>
     ensures { SendEntry (send_refusal «data».now) (sent start «data».now) air.old result air.new }
 {
-    let refusal = send_refusal(data, air.len());
-    if refusal != 0 {
-        return Outcome::Refused(refusal);
-    }
+    send_refusal(data, air.len())?;
     send(start, data, air);
-    Outcome::Done
+    Ok(())
 }
 
 // ---- receiving
 
-// Which refusal receiving owes, 0 for none.
-fn receive_refusal(air: &[u8]) -> u8
+// SHORT and BIT, in this order.
+fn receive_refusal(air: &[u8]) -> Result<(), Refusal>
     ensures { result ≡ receive_refusal air.now }
 {
     if air.len() < 30 {
-        return SHORT;
+        return Err(Refusal::Short);
     }
-    if base::inner::bits_only(air, 30) {
-        return 0;
+    if base::inner::bits_only(&air[..30]) {
+        return Ok(());
     }
-    BIT
+    Err(Refusal::Bit)
 }
 
 // The verdict on the word that the air bits say.
-fn receive(start: u32, air: &[u8]) -> rm3014::Verdict
+fn receive(start: u32, air: &[u8]) -> Verdict
     requires { (30 ≤ length air.now) × (bits_only 30 air.now ≡ true) }
     ensures { result ≡ verdict_from start air.now }
 {
     let mut block = [0u8; 30];
     stages::inner::descramble(start, air, &mut block);
-    rm3014::inner::verdict_of(number_of(&block, 30))
+    rm3014::inner::verdict_of(number_of(&block))
 }
 
 // Receives 30 air bits that were scrambled from start: the verdict, with the data bits as a number. Refusals: SHORT, BIT.
-pub fn decode_aach(start: u32, air: &[u8]) -> Judged
+pub fn decode_aach(start: u32, air: &[u8]) -> Result<Verdict, Refusal>
     ensures { result ≡ answer_of start air.now }
 {
-    let refusal = receive_refusal(air);
-    if refusal != 0 {
-        return Judged::Refused(refusal);
-    }
-    Judged::Is(receive(start, air))
+    receive_refusal(air)?;
+    Ok(receive(start, air))
 }

@@ -3,4 +3,4 @@ use Rattle.errorcontrol_aach.proofs.Chains.{receive_accepted}
 use Rattle.errorcontrol_aach.proofs.decode_aach.Goals as goal
 
 pub receive-requires : goal.receive-requires
-receive-requires c = receive_accepted c.args.air.now (sym c.receive_refusal-refusal.ensures ∙ c.if-refusal-ne0.false)
+receive-requires c = receive_accepted c.args.air.now (sym c.receive_refusal.ensures ∙ c.in_ok-receive_refusal.was)

@@ -6,4 +6,4 @@ use Rattle.errorcontrol_aach.proofs.encode_aach.Goals as goal
 pub send-requires : goal.send-requires
 send-requires c =
     let a = c.args in
-    send_accepted a.data.now (length a.air.now) (sym c.send_refusal-refusal.ensures ∙ c.if-refusal-ne0.false)
+    send_accepted a.data.now (length a.air.now) (sym c.send_refusal.ensures ∙ c.in_ok-send_refusal.was)

@@ -6,7 +6,7 @@ pub number_of-requires : goal.number_of-requires
 number_of-requires c =
     let a = c.args in
     let t = c.descramble in
-    (omega arith, omega (arith, block_length a.start a.air.now t.new.plain c.requires.0 c.requires.1 t.ensures), block_only a.start a.air.now t.new.plain c.requires.0 c.requires.1 t.ensures)
+    (omega (arith, block_length a.start a.air.now t.new.plain c.requires.0 c.requires.1 t.ensures), block_only a.start a.air.now t.new.plain c.requires.0 c.requires.1 t.ensures)
 
 pub returns : goal.returns
 returns c =

@@ -7,6 +7,3 @@ use Rattle.errorcontrol_aach.proofs.write_word.Given as goal
 
 abbrev pub invariant-loop-i : goal.invariant-loop-i
 invariant-loop-i l = (l.i ≤ 30) × (l.air ≡ written (tabulate (λ j. l.word / 2 ^ (29 - j) % 2) l.i) l.initial.air)
-
-abbrev pub decreases-loop-i : goal.decreases-loop-i
-decreases-loop-i l = 30 - l.i
