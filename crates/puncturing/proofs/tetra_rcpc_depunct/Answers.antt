@@ -1,9 +1,15 @@
 use mathlib.Core.Path.{sym, ◌∙◌}
+use native.Mathlib.Omega.{arith}
 use lib.ListN.{length}
+use Rattle.puncturing.specs.Puncturing.{needed}
+use Rattle.puncturing.proofs.Refusing.{counted, roomy}
 use Rattle.puncturing.proofs.Carrying.{holds_depuncturing}
 use Rattle.puncturing.proofs.tetra_rcpc_depunct.Goals as goal
 
 pub carry-requires : goal.carry-requires
 carry-requires c =
     let a = c.args in
-    holds_depuncturing a.mode a.len (length a.input.now) (length a.output.now) (sym c.depuncture_refusal.ensures ∙ c.in_ok-depuncture_refusal.was)
+    let p = c.in_ok-p.p in
+    let count = counted a.len (needed p.mode a.len) c.in_ok-mother.mother c.in_ok-mother.ensures in
+    let room = roomy (length a.input.now) a.len (length a.output.now) c.in_ok-mother.mother (sym c.check_room.ensures ∙ c.in_ok-check_room.was) in
+    (count.0, holds_depuncturing p.mode a.len (length a.input.now) (length a.output.now) p.parameters.kind (omega (arith, room, count.1)) (omega (arith, room, count.1)))
