@@ -12,6 +12,7 @@ ghost use Rattle.puncturing.specs.private.Ways.{Direction, puncturing, depunctur
 
 use base::Refusal;
 
+// Stays: flat tables looked up by a mode number, and that number at the entries, are a form that docs/DECISIONS.md keeps.
 // P of the modes 2_3, 1_3, 292_432, 148_432, 112_168, 72_162 and 38_80, each filled up with zeros that are not read.
 const P: [[u8; 17]; 7] = [
     [1, 2, 5, 0, 0, 0, 0, 0, 0, 0, 0, 0, 0, 0, 0, 0, 0],
@@ -218,6 +219,8 @@ fn check_room(source: usize, least: usize, target: usize, room: usize) -> Result
     Ok(())
 }
 
+// Stays: two entries, since the contracts of get_punctured_rate and of tetra_rcpc_depunct differ; they share what they call.
+// Stays: len beside the slices, since the contracts of both take slices that are longer.
 // The outputs numbered 1 to len that the mode keeps of a mother word.
 pub fn get_punctured_rate(
     mode: u8,
