@@ -2,20 +2,18 @@
 -- Assumes nothing.
 use mathlib.Core.Path.{◌≡◌, refl, sym, ap, subst, ◌∙◌}
 use mathlib.Core.List.{List, [], ◌∷◌, ◌++◌}
-use Prim.Native.Nat.{ℕ, ◌*◌, ◌≤◌, ◌<◌}
-use native.Mathlib.Nat.{mul-le-mul_left}
+use Prim.Native.Nat.{ℕ, ◌*◌, ◌≤◌}
 use native.Mathlib.Omega.{arith}
-use lib.ListN.{length, take}
-use lib.Seq.{length-take-le}
+use lib.ListN.{length}
 use Rattle.base.specs.Refusal.{Owed, accepted}
 use Rattle.base.specs.Bits.{Bits}
 use Rattle.base.specs.Places.{written}
-use Rattle.base.proofs.BitLaws.{bits_only_yes, bits_only_bits}
+use Rattle.base.proofs.BitLaws.{bits_only_yes}
 use Rattle.trellis.specs.Nearest.{encode}
 use Rattle.base.specs.Digits.{number}
 use Rattle.convenc.specs.Generators.{speech, outputs, delays, encode_refusal, Encoded}
 use Rattle.convenc.specs.private.Generators.{InTurn}
-use Rattle.convenc.proofs.Delays.{Four, four_bits, four_after, held_after}
+use Rattle.convenc.proofs.Delays.{Four, four_after, held_after}
 use Rattle.trellis.proofs.Encoding.{encode_append}
 use Rattle.convenc.proofs.Refusing.{accepts, refuses_none}
 
@@ -24,16 +22,6 @@ pub encode_accepts : (rate : ℕ) (d src : List ℕ) (dst : ℕ) → length src 
 encode_accepts rate d [] dst limit room input delayed = refl
 encode_accepts rate d (b ∷ src) dst limit room input delayed =
     sym (refuses_none rate d (b ∷ src) dst (λ e. omega arith) limit room (bits_only_yes (length (b ∷ src)) (b ∷ src) input) (bits_only_yes 4 d delayed))
-
--- what is accepted whole is accepted in front
-pub front_accepted : (rate n : ℕ) (d src : List ℕ) (dst : ℕ) → length d ≡ 4 → 0 < length src → n ≤ length src
-    → encode_refusal rate d src dst ≡ accepted → encode_refusal rate d (take n src) dst ≡ accepted
-front_accepted rate n d src dst four some h e =
-    let a = accepts rate d src dst e in
-    let l = length-take-le n src h in
-    encode_accepts rate d (take n src) dst (omega (arith, a.limit))
-    (omega (arith, a.room, mul-le-mul_left rate h, ap (λ (m : ℕ). rate * m) l))
-    (bits_only_bits n src (bits_only_yes n src a.input)) (four_bits d four (a.delayed some)).bits
 
 -- what an encoder that accepts leaves
 pub encodes : (code : List (List ℕ)) (d src dst : List ℕ) (answer : Owed) (d' dst' : List ℕ) → Encoded code d src dst answer d' dst'

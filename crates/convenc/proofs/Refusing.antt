@@ -38,11 +38,7 @@ accepts rate d (b ∷ src) dst e =
       delayed = λ h. not-false _ delayed.0;
     }
 
--- an empty input is accepted, and any other goes through the tests
-pub refusal_none : (rate : ℕ) (d src : List ℕ) (dst : ℕ) → length src ≡ 0 → encode_refusal rate d src dst ≡ accepted
-refusal_none rate d [] dst h = refl
-refusal_none rate d (b ∷ src) dst h = absurd (omega arith)
-
+-- an input that is not empty goes through the tests
 pub refusal_some : (rate : ℕ) (d src : List ℕ) (dst : ℕ) → (length src ≡ 0 → ⊥)
     → encode_refusal rate d src dst
     ≡ when (ltb 4096 (length src)) LIMIT

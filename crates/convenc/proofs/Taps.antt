@@ -5,19 +5,17 @@ use mathlib.Core.List.{List, [], ◌∷◌}
 use mathlib.Core.Bool.{Bool, true, false}
 use Prim.Native.Nat.{ℕ, zero, suc, ◌+◌, ◌*◌, ◌/◌, ◌%◌, ◌<◌}
 use native.Mathlib.Omega.{arith}
-use lib.ListN.{length, get_or, set}
+use lib.ListN.{length, get_or}
 use lib.Dec.{T, eqb, eqb→eq}
 use lib.Bits.{bit_xor}
-use lib.Seq.{sets, take-length}
+use lib.Seq.{take-length}
 use Rattle.base.specs.Bits.{Bits, both, bits_only}
 use Rattle.base.specs.Digits.{digits, number, dot}
 use Rattle.base.proofs.Xor.{xor_bit}
 use Rattle.base.proofs.BitLaws.{bits_at, bits_only_bits}
 use Rattle.base.proofs.Table.{both_left, both_right}
 use Rattle.convenc.specs.Generators.{tapped, outputs}
-use Rattle.convenc.specs.private.Tapping.{generators, xors, picks, taps}
-use Rattle.convenc.specs.declared.Code.{Code}
-use Rattle.convenc.specs.declared.Code.TheVariants as codes
+use Rattle.convenc.specs.private.Tapping.{proper, xors, picks, taps}
 use Rattle.convenc.proofs.Delays.{Four, four}
 
 abbrev sum : List ℕ → ℕ
@@ -53,12 +51,6 @@ window b p q r s hb hp hq hr hs = cc (first, second, third, fourth, fifth)
     fifth : (16 * b + number (p ∷ q ∷ r ∷ s ∷ [])) / 1 % 2 ≡ s
     fifth = omega arith
 
--- each generator takes the bit itself, and its coefficients are bits
-abbrev pub proper : List (List ℕ) → Bool
-proper [] = true
-proper ([] ∷ code) = false
-proper ((c ∷ cs) ∷ code) = both (eqb c 1) (both (bits_only (length cs) cs) (proper code))
-
 picks_bits : (cs d : List ℕ) → Bits d → Bits (picks cs d)
 picks_bits [] d k = tt
 picks_bits (c ∷ cs) [] k = tt
@@ -72,11 +64,11 @@ picks_dot (zero ∷ cs) (x ∷ d) k = omega (arith, picks_dot cs d k.1)
 picks_dot (suc zero ∷ cs) (x ∷ d) k = omega (arith, picks_dot cs d k.1)
 picks_dot (suc (suc c) ∷ cs) (x ∷ d) k = absurd (omega (arith, k.0))
 
-pub taps_outputs : (code : List (List ℕ)) → T (proper code) → (b : ℕ) (d : List ℕ) → b < 2 → Four d → taps code b d ≡ outputs code (16 * b + number d)
+taps_window : (code : List (List ℕ)) → T (proper code) → (b : ℕ) (d : List ℕ) → b < 2 → Four d → taps code b d ≡ outputs code (16 * b + number d)
 unfolding tapped
-taps_outputs [] t b d h f = refl
-taps_outputs ([] ∷ code) t b d h f = absurd t
-taps_outputs ((c ∷ cs) ∷ code) t b d h f = ap₂ (λ (x : ℕ) (l : List ℕ). x ∷ l) (one refl) (taps_outputs code (both_right (bits_only (length cs) cs) (proper code) rest) b d h f)
+taps_window [] t b d h f = refl
+taps_window ([] ∷ code) t b d h f = absurd t
+taps_window ((c ∷ cs) ∷ code) t b d h f = ap₂ (λ (x : ℕ) (l : List ℕ). x ∷ l) (one refl) (taps_window code (both_right (bits_only (length cs) cs) (proper code) rest) b d h f)
   where
     rest : T (both (bits_only (length cs) cs) (proper code))
     rest = both_right (eqb c 1) (both (bits_only (length cs) cs) (proper code)) t
@@ -99,26 +91,5 @@ taps_outputs ((c ∷ cs) ∷ code) t b d h f = ap₂ (λ (x : ℕ) (l : List ℕ
         ∙ ap (λ (x : ℕ). x % 2) (ap₂ (λ (x y : ℕ). x + y) (omega (arith, ap (λ (x : ℕ). x * b) leads)) (picks_dot cs d bits))
         ∙ ap (λ (l : List ℕ). dot (c ∷ cs) l % 2) (sym apart) ∙ sym e
 
--- ---- straight-line stores, the later at the next places
-pub stores_three : (l : List ℕ) (at x y z : ℕ) → set (set (set l at x) (at + 1) y) (at + 2) z ≡ sets l at (x ∷ y ∷ z ∷ [])
-stores_three l at x y z =
-    let second : at + 1 ≡ suc at = omega arith in
-    let third : at + 2 ≡ suc (suc at) = omega arith in
-    ap₂ (λ (m n : ℕ). set (set (set l at x) m y) n z) second third
-
-pub stores_four : (l : List ℕ) (at w x y z : ℕ) → set (set (set (set l at w) (at + 1) x) (at + 2) y) (at + 3) z ≡ sets l at (w ∷ x ∷ y ∷ z ∷ [])
-stores_four l at w x y z =
-    let e : at + 3 ≡ suc (suc (suc at)) = omega arith in
-    ap₂ (λ (m : List ℕ) (n : ℕ). set m n z) (stores_three l at w x y) e
-
--- ---- each code
-pub codes_proper : (code : Code) → T (proper (generators code))
-codes_proper codes.Control = tt
-codes_proper codes.ControlThird = tt
-codes_proper codes.Speech = tt
-
--- what the stores of one code leave, over the array of the delays
-pub stored_by : (code kind : Code) (d dst : List ℕ) (at b : ℕ) {dst' : List ℕ} → code ≡ kind → length d ≡ 4
-    → dst' ≡ sets dst at (taps (generators kind) b (get_or d 0 0 ∷ get_or d 1 0 ∷ get_or d 2 0 ∷ get_or d 3 0 ∷ [])) → dst' ≡ sets dst at (taps (generators code) b d)
-stored_by code kind d dst at b e l stored =
-    stored ∙ ap₂ (λ (k : Code) (w : List ℕ). sets dst at (taps (generators k) b w)) (sym e) (sym (four d l))
+pub taps_outputs : (code : List (List ℕ)) → proper code ≡ true → (b : ℕ) (d : List ℕ) → b < 2 → Four d → taps code b d ≡ outputs code (16 * b + number d)
+taps_outputs code t b d h f = taps_window code (subst T (sym t) tt) b d h f

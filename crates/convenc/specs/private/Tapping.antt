@@ -1,19 +1,25 @@
 -- How the code makes the outputs of a bit, and goes on over the input. No promise to a caller needs this file.
 -- Assumes nothing.
-use Rattle.std.specs.Prelude.{◌≡◌, List, [], ◌∷◌, ℕ, zero, suc, ◌-◌, length, take, get_or}
+use Rattle.std.specs.Prelude.{◌≡◌, List, [], ◌∷◌, Bool, true, false, ℕ, zero, suc, ◌-◌, eqb, ltb, length, take, get_or}
+use Rattle.base.specs.Bits.{both, bits_only}
 use Rattle.std.specs.Int.Bits.{bit_xor}
 use Rattle.base.specs.Refusal.{accepted}
 use Rattle.base.specs.Places.{written}
 use Rattle.trellis.specs.Nearest.{encode}
-use Rattle.convenc.specs.declared.Code.{Code}
-use Rattle.convenc.specs.declared.Code.TheVariants as codes
 use Rattle.base.specs.Digits.{number}
-use Rattle.convenc.specs.Generators.{control, control_third, speech, outputs, encode_refusal}
+use Rattle.convenc.specs.Generators.{outputs, encode_refusal}
 
-abbrev pub generators : Code → List (List ℕ)
-generators codes.Control = control
-generators codes.ControlThird = control_third
-generators codes.Speech = speech
+-- each generator takes the bit itself, and its coefficients are bits
+abbrev pub proper : List (List ℕ) → Bool
+proper [] = true
+proper ([] ∷ code) = false
+proper ((c ∷ cs) ∷ code) = both (eqb c 1) (both (bits_only (length cs) cs) (proper code))
+
+-- what holds of each code, and of how many entries it makes of a bit
+pub record CodeLaws (rate : ℕ) (code : List (List ℕ)) : Type 0 where
+  pub makes : rate ≡ length code
+  pub few : ltb 4 rate ≡ false
+  pub takes_the_bit : proper code ≡ true
 
 -- exclusive or of x and a list, from the left
 abbrev pub xors : ℕ → List ℕ → ℕ
