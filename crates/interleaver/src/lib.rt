@@ -12,6 +12,7 @@ ghost use Rattle.interleaver.specs.private.Lines.{MatrixFits, line_moved};
 ghost use Rattle.interleaver.specs.Interleaving.{shared, block_refusal, interleaved, deinterleaved, matrix_refusal, matrix_interleaved, matrix_deinterleaved};
 
 use base::Refusal;
+use base::inner::sized;
 
 // The greatest number that divides both, by Euclid's step on the remainder.
 fn divisor(a: usize, b: usize) -> usize
@@ -47,13 +48,7 @@ fn block_refusal(k: usize, a: usize, source: usize, target: usize) -> Result<(),
     if shares(k, a) {
         return Err(Refusal::Shuffle);
     }
-    if source < k {
-        return Err(Refusal::Short);
-    }
-    if target < k {
-        return Err(Refusal::Room);
-    }
-    Ok(())
+    sized(source, k, target, k)
 }
 
 // a's remainder by k; for k 0, where nothing is moved, a itself.
@@ -164,13 +159,7 @@ fn matrix_refusal(lines: usize, columns: usize, source: usize, target: usize) ->
     if 4096 < count {
         return Err(Refusal::Limit);
     }
-    if source < count {
-        return Err(Refusal::Short);
-    }
-    if target < count {
-        return Err(Refusal::Room);
-    }
-    Ok(())
+    sized(source, count, target, count)
 }
 
 // Entries by lines: entry i of a line stands at line columns + i.

@@ -22,11 +22,12 @@ loop-pair-preserved c =
     let a = c.args in
     let l = c.loop-pair in
     let line = 2 * l.pair in
+    let next : line + 2 ≡ 2 * (l.pair + 1) = omega arith in
     let moved =
     c.move_pair.ensures
     ∙ ap (λ (out : List ℕ). line_moved a.self.lines a.self.columns (line + 1) a.input.now (line_moved a.self.lines a.self.columns line a.input.now out)) l.invariant.2
     ∙ pair_more a.self.lines a.self.columns line (omega arith) a.input.now a.output.now
-    ∙ ap (λ (n : ℕ). scatter (matrix_place a.self.lines a.self.columns) (n * a.self.columns) a.input.now a.output.now) (omega arith) in
+    ∙ ap (λ (n : ℕ). scatter (matrix_place a.self.lines a.self.columns) (n * a.self.columns) a.input.now a.output.now) next in
     (omega arith, ap length moved ∙ scatter_length (matrix_place a.self.lines a.self.columns) (2 * (l.pair + 1) * a.self.columns) a.input.now a.output.now, moved)
 
 pub returns-then-self-eq1 : goal.returns-then-self-eq1
