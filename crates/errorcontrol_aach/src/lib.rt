@@ -12,6 +12,7 @@ ghost use Rattle.errorcontrol_aach.specs.Sending.{send_refusal, sent};
 ghost use Rattle.errorcontrol_aach.specs.Receiving.{receive_refusal, verdict_from, answer_of};
 
 use base::Refusal;
+use base::inner::{bits_only, sized};
 use rm3014::Verdict;
 
 // The number that the bits say.
@@ -32,13 +33,8 @@ fn number_of(bits: &[u8]) -> u32
 fn send_refusal(data: &[u8], air: usize) -> Result<(), Refusal>
     ensures { result ≡ send_refusal «data».now air }
 {
-    if data.len() < 14 {
-        return Err(Refusal::Short);
-    }
-    if air < 30 {
-        return Err(Refusal::Room);
-    }
-    if base::inner::bits_only(&data[..14]) {
+    sized(data.len(), 14, air, 30)?;
+    if bits_only(&data[..14]) {
         return Ok(());
     }
     Err(Refusal::Bit)
@@ -82,7 +78,7 @@ fn receive_refusal(air: &[u8]) -> Result<(), Refusal>
     if air.len() < 30 {
         return Err(Refusal::Short);
     }
-    if base::inner::bits_only(&air[..30]) {
+    if bits_only(&air[..30]) {
         return Ok(());
     }
     Err(Refusal::Bit)

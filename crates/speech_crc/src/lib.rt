@@ -10,6 +10,7 @@ ghost use Rattle.base.specs.Refusal.{Leaves};
 ghost use Rattle.speech_crc.specs.Check.{data_bits, remainder, speech_check, check_refusal};
 
 use base::Refusal;
+use base::inner::sized;
 
 // The remainder, the highest degree first: a register of seven coefficients takes the data in, the last bit first.
 fn divide(class2: &[u8]) -> [u8; 7]
@@ -76,25 +77,12 @@ fn put_check(class2: &[u8], check: &mut [u8])
     put(left, last, check);
 }
 
-// SHORT below 60 entries, ROOM below 8.
-fn check_refusal(class2: usize, check: usize) -> Result<(), Refusal>
-    ensures { result ≡ check_refusal class2 check }
-{
-    if class2 < 60 {
-        return Err(Refusal::Short);
-    }
-    if check < 8 {
-        return Err(Refusal::Room);
-    }
-    Ok(())
-}
-
-// Writes the eight check bits of the 60 data bits, or refuses and writes nothing.
+// Writes the eight check bits of the 60 data bits, or refuses and writes nothing: SHORT below 60 entries, ROOM below 8.
 pub fn speech_crc(class2: &[u8], check: &mut [u8]) -> Result<(), Refusal>
     ensures { Leaves (check_refusal (length class2.now) (length check.old))
         (written (speech_check class2.now) check.old) check.old check.new result }
 {
-    check_refusal(class2.len(), check.len())?;
+    sized(class2.len(), 60, check.len(), 8)?;
     put_check(class2, check);
     Ok(())
 }
