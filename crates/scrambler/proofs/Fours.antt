@@ -52,13 +52,13 @@ taken_more outputs k at v b b' h m t e = (length-set b' (at + k) v ∙ t.0, more
         ap₂ (λ (s : List ℕ) (y : ℕ). set s (at + k) y) w u ∙ write_more f (at + k) d (omega arith) ∙ ap (λ (i : ℕ). written (tabulate f i) d) r
 
 -- ---- four symbols more
-pub begun_more : (x i lfsr r : ℕ) (outputs b b' b'' : List ℕ) → x < 2 ^ 32 → i % 4 ≡ 0 → Begun x i lfsr b b' → (i % 32 ≡ 0 → r ≡ nexts lfsr 32) → ((i % 32 ≡ 0 → ⊥) → r ≡ lfsr)
-    → ((e : ℕ) → e < 4 → get_or outputs e 0 ≡ r / 2 ^ (i % 32) / 2 ^ e % 2) → Taken outputs 4 i b' b'' → Begun x (i + 4) r b b''
-begun_more x i lfsr r outputs b b' b'' h k g p q o t = record {
+pub begun_more : (x i j lfsr r : ℕ) (outputs b b' b'' : List ℕ) → x < 2 ^ 32 → i % 4 ≡ 0 → j ≡ i + 4 → Begun x i lfsr b b' → (i % 32 ≡ 0 → r ≡ nexts lfsr 32) → ((i % 32 ≡ 0 → ⊥) → r ≡ lfsr)
+    → ((e : ℕ) → e < 4 → get_or outputs e 0 ≡ r / 2 ^ (i % 32) / 2 ^ e % 2) → Taken outputs 4 i b' b'' → Begun x j r b b''
+begun_more x i j lfsr r outputs b b' b'' h k n g p q o t = subst (λ (j : ℕ). Begun x j r b b'') (sym n) (record {
   register = new ∙ register_fourth x i k;
   long = t.0 ∙ g.long;
   entries = t.1 (λ j. descrambled_symbol (get_or b j 0) (output x j)) b g.entries (sym g.long) (λ e l. ap (descrambled_symbol (get_or b (i + e) 0)) (sym (out e l)));
-}
+})
   where
     new : r ≡ nexts x (i / 32 * 32 + 32)
     new = register_more x lfsr r i g.register p q

@@ -15,55 +15,6 @@ use base::Refusal;
 // The start value of the synchronization channel, BSCH.
 pub const SCRAMB_INIT: u32 = 3;
 
-// The register after thirty-two shifts. It holds their outputs and nothing else, the first lowest.
-fn renewed(x: u32) -> u32
-    ensures { result ≡ nexts x 32 }
-{
-    // The taps of the register as it is, moved down to the place of each output.
-    let own = x
-        ^ (x >> 6)
-        ^ (x >> 9)
-        ^ (x >> 10)
-        ^ (x >> 16)
-        ^ (x >> 20)
-        ^ (x >> 21)
-        ^ (x >> 22)
-        ^ (x >> 24)
-        ^ (x >> 25)
-        ^ (x >> 27)
-        ^ (x >> 28)
-        ^ (x >> 30)
-        ^ (x >> 31);
-    // Outputs come to the taps while later ones are made: how far each part reaches into those after it.
-    own ^ (own << 1)
-        ^ (own << 3)
-        ^ (own << 5)
-        ^ (own << 7)
-        ^ (own << 9)
-        ^ (own << 11)
-        ^ (own << 12)
-        ^ (own << 16)
-        ^ (own << 18)
-        ^ (own << 23)
-        ^ (own << 27)
-        ^ (own << 30)
-        ^ (own << 31)
-}
-
-// The register that holds output i, from the one that held the output before it.
-fn register_at(lfsr: u32, i: usize) -> u32
-    ensures { (i % 32 ≡ 0 → result ≡ nexts lfsr 32) × ((i % 32 ≡ 0 → ⊥) → result ≡ lfsr) }
-{
-    if i % 32 == 0 { renewed(lfsr) } else { lfsr }
-}
-
-// Output i, of the register that holds it.
-fn output_at(lfsr: u32, i: usize) -> u8
-    ensures { result ≡ lfsr / 2 ^ (i % 32) % 2 }
-{
-    ((lfsr >> (i % 32)) % 2) as u8
-}
-
 // The bits of each number below 16, the lowest first.
 const SPREAD: [[u8; 4]; 16] = [
     [0, 0, 0, 0],
@@ -84,13 +35,73 @@ const SPREAD: [[u8; 4]; 16] = [
     [1, 1, 1, 1],
 ];
 
-// The outputs from i on, four of them, by the table of four bits.
-fn outputs_at(spread: &[[u8; 4]; 16], lfsr: u32, i: usize) -> [u8; 4]
-    requires { Spreads spread.now }
-    ensures { (e : ℕ) → e < 4 → get_or result e 0 ≡ lfsr / 2 ^ (i % 32) / 2 ^ e % 2 }
-{
-    let four = ((lfsr >> (i % 32)) % 16) as usize;
-    spread[four]
+// The scrambling register. It holds thirty-two outputs, the first lowest.
+#[derive(Clone, Copy)]
+struct Register {
+    bits: u32,
+}
+
+impl Register {
+    // After thirty-two shifts. It holds their outputs and nothing else.
+    fn renewed(self) -> Self
+        ensures { result.bits ≡ nexts self.bits 32 }
+    {
+        let x = self.bits;
+        // The taps of the register as it is, moved down to the place of each output.
+        let own = x
+            ^ (x >> 6)
+            ^ (x >> 9)
+            ^ (x >> 10)
+            ^ (x >> 16)
+            ^ (x >> 20)
+            ^ (x >> 21)
+            ^ (x >> 22)
+            ^ (x >> 24)
+            ^ (x >> 25)
+            ^ (x >> 27)
+            ^ (x >> 28)
+            ^ (x >> 30)
+            ^ (x >> 31);
+        // Outputs come to the taps while later ones are made: how far each part reaches into those after it.
+        let bits = own
+            ^ (own << 1)
+            ^ (own << 3)
+            ^ (own << 5)
+            ^ (own << 7)
+            ^ (own << 9)
+            ^ (own << 11)
+            ^ (own << 12)
+            ^ (own << 16)
+            ^ (own << 18)
+            ^ (own << 23)
+            ^ (own << 27)
+            ^ (own << 30)
+            ^ (own << 31);
+        Register { bits }
+    }
+
+    // The register that holds output i, from the one that held the output before it.
+    fn at(self, i: usize) -> Self
+        ensures { (i % 32 ≡ 0 → result.bits ≡ nexts self.bits 32) × ((i % 32 ≡ 0 → ⊥) → result.bits ≡ self.bits) }
+    {
+        if i % 32 == 0 { self.renewed() } else { self }
+    }
+
+    // Output i, where the register holds it.
+    fn output(self, i: usize) -> u8
+        ensures { result ≡ self.bits / 2 ^ (i % 32) % 2 }
+    {
+        ((self.bits >> (i % 32)) % 2) as u8
+    }
+
+    // The outputs from i on, four of them, by the table of four bits.
+    fn outputs(self, spread: &[[u8; 4]; 16], i: usize) -> [u8; 4]
+        requires { Spreads spread.now }
+        ensures { (e : ℕ) → e < 4 → get_or result e 0 ≡ self.bits / 2 ^ (i % 32) / 2 ^ e % 2 }
+    {
+        let four = ((self.bits >> (i % 32)) % 16) as usize;
+        spread[four]
+    }
 }
 
 // A received symbol with an output taken off.
@@ -105,10 +116,10 @@ fn descramble_symbol(symbol: u8, bit: u8) -> u8
 pub fn tetra_scramb_get_bits(lfsr_init: u32, out: &mut [u8])
     ensures { out.new ≡ tabulate (output lfsr_init) (length out.old) }
 {
-    let mut lfsr = lfsr_init;
-    for i in 0..out.len() {
-        lfsr = register_at(lfsr, i);
-        out[i] = output_at(lfsr, i);
+    let mut lfsr = Register { bits: lfsr_init };
+    for (i, bit) in out.iter_mut().enumerate() {
+        lfsr = lfsr.at(i);
+        *bit = lfsr.output(i);
     }
 }
 
@@ -123,16 +134,14 @@ fn descramble_four(outputs: [u8; 4], block: &mut [u8], at: usize)
 }
 
 // As much of a block as whole fours make, with the outputs taken off, and the register that the rest goes on from.
-fn descramble_fours(lfsr_init: u32, block: &mut [u8]) -> u32
-    ensures { Begun lfsr_init (length block.old / 4 * 4) result block.old block.new }
+fn descramble_fours(lfsr_init: u32, block: &mut [u8]) -> Register
+    ensures { Begun lfsr_init (length block.old / 4 * 4) result.bits block.old block.new }
 {
     let spread = SPREAD;
-    let mut lfsr = lfsr_init;
-    let mut i: usize = 0;
-    while 4 <= block.len() - i {
-        lfsr = register_at(lfsr, i);
-        descramble_four(outputs_at(&spread, lfsr, i), block, i);
-        i += 4;
+    let mut lfsr = Register { bits: lfsr_init };
+    for q in 0..block.len() / 4 {
+        lfsr = lfsr.at(4 * q);
+        descramble_four(lfsr.outputs(&spread, 4 * q), block, 4 * q);
     }
     lfsr
 }
@@ -143,8 +152,8 @@ pub fn tetra_descramb_bits(lfsr_init: u32, block: &mut [u8])
 {
     let mut lfsr = descramble_fours(lfsr_init, block);
     for i in block.len() / 4 * 4..block.len() {
-        lfsr = register_at(lfsr, i);
-        block[i] = descramble_symbol(block[i], output_at(lfsr, i));
+        lfsr = lfsr.at(i);
+        block[i] = descramble_symbol(block[i], lfsr.output(i));
     }
 }
 

@@ -34,7 +34,7 @@ made refusal new old left z p = p ∙ ap (λ (r : Owed). unless r new old) z
 pub whole : (refusal : Owed) (new old left : List ℕ) → refusal ≡ accepted → length new ≡ length old → left ≡ unless refusal (written new old) old → left ≡ new
 whole refusal new old left z e p = made refusal (written new old) old left z p ∙ written_whole new old e
 
-scramble_none : (block : List ℕ) → Bits block → send_refusal block ≡ accepted
+pub scramble_none : (block : List ℕ) → Bits block → send_refusal block ≡ accepted
 scramble_none block plain = rw (bits_only_yes (length block) block plain)
 
 block_none : (k a src dst : ℕ) → k ≤ 4096 → a ≤ 65535 → shared k a ≡ false → k ≤ src → k ≤ dst → block_refusal k a src dst ≡ accepted

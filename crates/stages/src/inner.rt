@@ -11,7 +11,7 @@ pub fn puncture(mode: u8, mother: &[u8], coded: &mut [u8])
     ensures { coded.new ≡ punctured mode (length coded.old) mother.now }
 {
     let count = coded.len();
-    let _ = puncturing::get_punctured_rate(mode, mother, count, coded);
+    puncturing::get_punctured_rate(mode, mother, count, coded).unwrap();
 }
 
 // Bits scrambled where they stand.
@@ -19,7 +19,7 @@ pub fn scramble(start: u32, block: &mut [u8])
     requires { Bits block.old }
     ensures { block.new ≡ scrambled start block.old }
 {
-    let _ = scrambler::tetra_scramb_bits(start, block);
+    scrambler::tetra_scramb_bits(start, block).unwrap();
 }
 
 // As many air symbols as the target holds, without their scrambling.
@@ -36,7 +36,7 @@ pub fn depuncture(mode: u8, coded: &[u8], mother: &mut [u8])
     requires { (mode ≤ 6) × (length coded.now ≤ 4096) × (needed mode (length coded.now) ≤ length mother.old) }
     ensures { mother.new ≡ depunctured mode (length coded.now) coded.now mother.old }
 {
-    let _ = puncturing::tetra_rcpc_depunct(mode, coded, coded.len(), mother);
+    puncturing::tetra_rcpc_depunct(mode, coded, coded.len(), mother).unwrap();
 }
 
 // How a block goes onto the air: the mode that punctures it, how many symbols are left, the step of the block interleaver and the start of the scrambler.
@@ -60,7 +60,7 @@ impl Block {
     {
         let mut coded = [0u8; 432];
         puncture(self.mode, mother, &mut coded[..self.count]);
-        let _ = interleaver::block_interleave(self.count, self.step, &coded[..self.count], air);
+        interleaver::block_interleave(self.count, self.step, &coded[..self.count], air).unwrap();
         scramble(self.start, air);
     }
 
@@ -71,7 +71,7 @@ impl Block {
     {
         let mut plain = [0u8; 432];
         descramble(self.start, air, &mut plain[..self.count]);
-        let _ = interleaver::block_deinterleave(self.count, self.step, &plain[..self.count], coded);
+        interleaver::block_deinterleave(self.count, self.step, &plain[..self.count], coded).unwrap();
     }
 
     // The same, at the places that the mode keeps of a mother target; its other entries stay.
@@ -102,7 +102,7 @@ impl Matrix {
         requires { (length block.now ≡ self.lines * self.columns) × Bits block.now × (length air.old ≡ self.lines * self.columns) }
         ensures { air.new ≡ scrambled self.start (matrix_interleaved self.lines self.columns block.now (replicate (self.lines * self.columns) 0)) }
     {
-        let _ = interleaver::matrix_interleave(self.lines, self.columns, block, air);
+        interleaver::matrix_interleave(self.lines, self.columns, block, air).unwrap();
         scramble(self.start, air);
     }
 
@@ -114,6 +114,6 @@ impl Matrix {
         let count = block.len();
         let mut plain = [0u8; 432];
         descramble(self.start, air, &mut plain[..count]);
-        let _ = interleaver::matrix_deinterleave(self.lines, self.columns, &plain[..count], block);
+        interleaver::matrix_deinterleave(self.lines, self.columns, &plain[..count], block).unwrap();
     }
 }

@@ -9,11 +9,11 @@ pub loop-i-preserved : goal.loop-i-preserved
 loop-i-preserved c =
     let l = c.loop-i in
     let a = c.args in
-    let m = c.register_at-lfsr in
-    let v = c.descramble_symbol.ensures ∙ ap (descrambled_symbol (get_or l.block l.i 0)) c.output_at.ensures in (
+    let m = c.at-lfsr in
+    let v = c.descramble_symbol.ensures ∙ ap (descrambled_symbol (get_or l.block l.i 0)) c.output.ensures in (
       omega arith,
       length-set l.block l.i c.descramble_symbol.result ∙ l.invariant.1,
-      λ b g. begun_one a.lfsr_init l.i l.lfsr m.result c.descramble_symbol.result b l.block (omega arith)
+      λ b g. begun_one a.lfsr_init l.i l.lfsr.bits m.result.bits c.descramble_symbol.result b l.block (omega arith)
           (omega (arith, (l.invariant.2 b g).long)) (l.invariant.2 b g) m.ensures.0 m.ensures.1 v,
     )
 
@@ -22,5 +22,5 @@ returns c =
     let a = c.args in
     let l = c.loop-i in
     let f = c.descramble_fours-lfsr in
-    let g = l.invariant.2 a.block.now (begun_long a.lfsr_init f.result a.block.now _ f.ensures) in
-    begun_done a.lfsr_init l.i l.lfsr a.block.now l.block (omega (arith, g.long)) g
+    let g = l.invariant.2 a.block.now (begun_long a.lfsr_init f.result.bits a.block.now _ f.ensures) in
+    begun_done a.lfsr_init l.i l.lfsr.bits a.block.now l.block (omega (arith, g.long)) g

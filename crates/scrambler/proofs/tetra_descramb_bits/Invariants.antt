@@ -7,4 +7,4 @@ use Rattle.scrambler.specs.private.Fours.{Begun}
 use Rattle.scrambler.proofs.tetra_descramb_bits.Given as goal
 
 abbrev pub invariant-loop-i : goal.invariant-loop-i
-invariant-loop-i l = (l.i ≤ length l.initial.block) × (length l.block ≡ length l.initial.block) × ((b : List ℕ) → Begun l.lfsr_init l.initial.i l.initial.lfsr b l.initial.block → Begun l.lfsr_init l.i l.lfsr b l.block)
+invariant-loop-i l = (l.i ≤ length l.initial.block) × (length l.block ≡ length l.initial.block) × ((b : List ℕ) → Begun l.lfsr_init l.initial.i l.initial.lfsr.bits b l.initial.block → Begun l.lfsr_init l.i l.lfsr.bits b l.block)

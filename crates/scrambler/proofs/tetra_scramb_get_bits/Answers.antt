@@ -1,9 +1,8 @@
-use borrow.Author.Rules.{rules}
 use Prim.Native.Nat.{ℕ, ◌/◌, ◌%◌, ◌^◌}
-use mathlib.Core.Path.{◌≡◌, refl, sym, ap, ap₂, ◌∙◌}
+use mathlib.Core.Path.{◌≡◌, sym, ap, ap₂, ◌∙◌}
 use mathlib.Core.List.{List}
 use native.Mathlib.Omega.{arith}
-use lib.ListN.{length, set, length-set}
+use lib.ListN.{length, set}
 use Rattle.base.specs.Places.{tabulate, written}
 use Rattle.base.proofs.Lists.{tabulate_length, write_none, write_more, written_whole}
 use Rattle.scrambler.specs.Scrambling.{output}
@@ -14,20 +13,18 @@ use Rattle.scrambler.proofs.tetra_scramb_get_bits.Goals as goal
 pub loop-i-init : goal.loop-i-init
 loop-i-init c =
     let a = c.args in
-    (search rules, refl, sym (nexts_none a.lfsr_init), write_none (output a.lfsr_init) a.out.now)
+    (sym (nexts_none a.lfsr_init), write_none (output a.lfsr_init) a.out.now)
 
 pub loop-i-preserved : goal.loop-i-preserved
 loop-i-preserved c =
     let a = c.args in
     let l = c.loop-i in
     let x = a.lfsr_init in
-    let m = c.register_at-lfsr in
-    let r = register_more x l.lfsr m.result l.i l.invariant.2 m.ensures.0 m.ensures.1 in
-    let v = c.output_at.ensures ∙ ap (λ (n : ℕ). n / 2 ^ (l.i % 32) % 2) r ∙ register_output x l.i (omega arith) in (
-      omega arith,
-      length-set l.out l.i c.output_at.result ∙ l.invariant.1,
+    let m = c.at-lfsr in
+    let r = register_more x l.lfsr.bits m.result.bits l.i l.invariant.0 m.ensures.0 m.ensures.1 in
+    let v = c.output.ensures ∙ ap (λ (n : ℕ). n / 2 ^ (l.i % 32) % 2) r ∙ register_output x l.i (omega arith) in (
       r ∙ register_next x l.i,
-      ap₂ (λ (s : List ℕ) (b : ℕ). set s l.i b) l.invariant.3 v ∙ write_more (output x) l.i a.out.now (omega arith),
+      ap₂ (λ (s : List ℕ) (b : ℕ). set s l.i b) l.invariant.1 v ∙ write_more (output x) l.i a.out.now (omega arith),
     )
 
 pub returns : goal.returns
@@ -36,5 +33,5 @@ returns c =
     let l = c.loop-i in
     let x = a.lfsr_init in
     let e : l.i ≡ length a.out.now = omega arith in
-    l.invariant.3 ∙ ap (λ (i : ℕ). written (tabulate (output x) i) a.out.now) e
+    l.invariant.1 ∙ ap (λ (i : ℕ). written (tabulate (output x) i) a.out.now) e
     ∙ written_whole (tabulate (output x) (length a.out.now)) a.out.now (tabulate_length (output x) (length a.out.now))

@@ -1,5 +1,10 @@
-use Rattle.stages.proofs.Calls.{scrambled_here}
+use mathlib.Core.Path.{ap, ◌∙◌}
+use Rattle.std.specs.Result.{is_ok}
+use Rattle.stages.proofs.Calls.{scramble_none, scrambled_here}
 use Rattle.stages.proofs.inner.scramble.Goals as goal
+
+pub unwrap-requires : goal.unwrap-requires
+unwrap-requires c = ap is_ok (c.tetra_scramb_bits.ensures.0 ∙ scramble_none c.args.block.now c.requires)
 
 pub returns : goal.returns
 returns c =
