@@ -4,7 +4,8 @@ use mathlib.Core.Path.{◌≡◌, refl, sym, ap, ap₂, ◌∙◌, subst}
 use mathlib.Core.List.{List, [], ◌∷◌, ◌++◌, map, append_assoc, append-nil}
 use Prim.Native.Nat.{ℕ, ◌+◌, ◌*◌, ◌≤◌}
 use native.Mathlib.Omega.{arith}
-use borrow.Rule.Slice.PartMut.{put_mid}
+use borrow.Rule.Slice.PartMut.{put_mid, Post-is}
+use Rattle.std.proofs.lemmas.List.{take-replicate}
 use lib.ListN.{length, take, drop, replicate, length-append, length-drop, length-replicate}
 use lib.Seq.{length-take-le, take_all, take_at, drop_at, drop-length}
 use Rattle.base.specs.Refusal.{accepted}
@@ -36,7 +37,12 @@ use Rattle.scrambler.specs.Scrambling.{descrambled}
 use Rattle.stages.proofs.Entries.{receives_done}
 use Rattle.errorcontrol_tp.specs.Sending.{word_of, coded, on_air, slot}
 use Rattle.errorcontrol_tp.specs.Receiving.{slot_of, block_of, mother_of, word_from, counts_of, good, read_bit, codec_bits, receive_refusal, Receives}
-use Rattle.errorcontrol_tp.specs.private.Settling.{word_in, Settles}
+use Rattle.errorcontrol_tp.specs.declared.Heard.{Heard}
+use Rattle.errorcontrol_tp.specs.private.Settling.{word_in, HeardOf}
+use Rattle.errorcontrol_tp.proofs.Refusals.{receive_accepted}
+use Rattle.errorcontrol_tp.proofs.Air.{slot_long}
+use Rattle.std.specs.Prelude.{Ok}
+use Prim.Native.Nat.{◌-◌}
 use Rattle.errorcontrol_tp.proofs.Mother.{bits_take}
 
 -- ---- an array written in parts
@@ -85,12 +91,9 @@ unfolding needed position
 needed_second = omega arith
 
 -- ---- the block that is sent
-module _ (channel one two p q r : List ℕ) (long : length channel ≡ 274) (wide : length one ≡ 336) (wider : length two ≡ 216) (front : p ≡ take 102 (take 102 channel)) where
-  front_is : p ≡ take 102 channel
-  front_is = front ∙ take_all 102 (take 102 channel) (omega (arith, length-take-le 102 channel (omega arith)))
-
+module _ (channel one two p q r : List ℕ) (long : length channel ≡ 274) (wide : length one ≡ 336) (wider : length two ≡ 216) (front : p ≡ take 102 channel) where
   pub front_long : length p ≡ 102
-  front_long = ap length front_is ∙ length-take-le 102 channel (omega arith)
+  front_long = ap length front ∙ length-take-le 102 channel (omega arith)
 
   pub front_room : length (p ++ replicate 330 0) ≡ 432
   front_room = length-append p (replicate 330 0) ∙ ap (λ (n : ℕ). n + 330) front_long
@@ -135,7 +138,7 @@ module _ (channel one two p q r : List ℕ) (long : length channel ≡ 274) (wid
     block_made third =
         ap (λ (x : List ℕ). put_mid 270 162 x r) then ∙ two_parts (p ++ q) (replicate 162 0) r 270 162 both_long refl
         ∙ append_assoc p q r
-        ∙ ap₂ (λ (x y : List ℕ). x ++ y) front_is (ap₂ (λ (x y : List ℕ). x ++ y) q_is (third ∙ ap (λ (n : ℕ). punctured 5 n two) rest_long))
+        ∙ ap₂ (λ (x y : List ℕ). x ++ y) front (ap₂ (λ (x y : List ℕ). x ++ y) q_is (third ∙ ap (λ (n : ℕ). punctured 5 n two) rest_long))
 
 -- ---- the mother symbols of a received block
 module _ (block p q : List ℕ) (long : length block ≡ 432)
@@ -230,44 +233,48 @@ slot_is start codec channel class2 one two block air l c e f g h =
     h ∙ ap (on_air start) (block_is channel class2 one two block l e f g) ∙ ap (λ (x : List ℕ). on_air start (take 102 x ++ coded (word_of x))) c
 
 -- symbols copied over the front of a target
-pub copied_over : (n : ℕ) (symbols air q : List ℕ) → length symbols ≡ n → n ≤ length air → q ≡ take (length (take n air)) symbols
-    → q ++ drop n air ≡ written symbols air
-copied_over n symbols air q e h p =
-    ap₂ (λ (x : List ℕ) (k : ℕ). x ++ drop k air) (p ∙ take_all (length (take n air)) symbols (omega (arith, length-take-le n air h))) (sym e)
+pub copied_over : (count start : ℕ) (codec symbols air q : List ℕ) → count ≤ 432 → symbols ≡ slot start codec → q ≡ take (432 - (432 - count)) (drop (432 - count) symbols)
+    → q ++ drop count air ≡ written (drop (432 - count) (slot start codec)) air
+copied_over count start codec symbols air q most s e =
+    let whole = take_all (432 - (432 - count)) (drop (432 - count) symbols) (omega (arith, length-drop (432 - count) symbols, ap length s, slot_long start codec)) in
+    let made : q ≡ drop (432 - count) (slot start codec) = e ∙ whole ∙ ap (drop (432 - count)) s in
+    let long : count ≡ length (drop (432 - count) (slot start codec)) = omega (arith, length-drop (432 - count) (slot start codec), slot_long start codec) in
+    ap₂ (λ (x : List ℕ) (k : ℕ). x ++ drop k air) made long
 
 -- ---- the slot that is received
 pub block_came : (start : ℕ) (air block : List ℕ) → length air ≡ 432 → block ≡ matrix_deinterleaved 24 18 (descrambled start (take 432 air)) → block ≡ block_of start air
 unfolding block_of
 block_came start air block e p = p ∙ ap (λ (l : List ℕ). matrix_deinterleaved 24 18 (descrambled start l)) (take_all 432 air (omega arith))
 
-pub settles : (block mother blank word codec left trellis trellis' : List ℕ) (value : ℕ) → 274 ≤ length codec → mother ≡ mother_of block → length blank ≡ 184
-    → Finds speech 184 mother blank word trellis trellis' value → (answer : Received) → answer ≡ checked (good word) (record { disagreements = value })
-    → left ≡ codec_of (map read_bit (take 102 block) ++ take 172 word) codec → Settles block codec trellis answer left trellis'
-settles block mother blank word codec left trellis trellis' value target m room does answer a l =
-    record {
-      answered = a ∙ ap₂ (λ (v : List ℕ) (k : ℕ). checked (good v) (record { disagreements = k })) word_decoded
-          (does.counts ∙ ap (λ (s : List ℕ). disagreements speech 184 s (decoded speech 184 s)) m);
-      target = l ∙ codec_over (map read_bit (take 102 block) ++ take 172 word) codec target
-          ∙ ap (λ (v : List ℕ). written (codec_of (map read_bit (take 102 block) ++ take 172 v) (replicate 274 0)) codec) word_decoded;
-      clears = does.clears;
-    }
-  where
-    word_decoded : word ≡ word_in block
-    word_decoded =
-        does.writes
-        ∙ written_whole (decoded speech 184 mother) blank (nearest_length (disagreements speech 184 mother) 184 ∙ sym room)
-        ∙ ap (decoded speech 184) m
+-- the word of a block, and what was counted
+pub heard_of : (block mother blank word trellis trellis' : List ℕ) (value : ℕ) → mother ≡ mother_of block → length blank ≡ 184
+    → Finds speech 184 mother blank word trellis trellis' value → (word ≡ word_in block) × (value ≡ disagreements speech 184 (mother_of block) (word_in block))
+heard_of block mother blank word trellis trellis' value m room does = (
+  does.writes ∙ written_whole (decoded speech 184 mother) blank (nearest_length (disagreements speech 184 mother) 184 ∙ sym room) ∙ ap (decoded speech 184) m,
+  does.counts ∙ ap (λ (s : List ℕ). disagreements speech 184 s (decoded speech 184 s)) m,
+)
 
--- what a settled slot is to its entry
-pub received_slot : (count start : ℕ) (air slot codec trellis : List ℕ) (answer : Received) (codec' trellis' : List ℕ)
+-- what is heard and delivered of a slot is what its entry owes
+pub received_slot : (count start : ℕ) (air slot codec trellis : List ℕ) (heard : Heard) (answer : Received) (codec' trellis' : List ℕ)
     → receive_refusal count (length air) (length codec) (length trellis) ≡ accepted → slot ≡ slot_of count air
-    → Settles (block_of start slot) codec trellis answer codec' trellis' → Receives count start air codec trellis answer codec' trellis'
+    → HeardOf (block_of start slot) trellis trellis' heard → answer ≡ checked (good heard.word) (record { disagreements = heard.disagreements })
+    → codec' ≡ codec_of (map read_bit (take 102 heard.block) ++ take 172 heard.word) codec
+    → Receives count start air codec trellis (Ok answer) codec' trellis'
 unfolding word_from counts_of codec_bits
-received_slot count start air slot codec trellis answer codec' trellis' none is s =
-    let t = subst (λ (l : List ℕ). Settles (block_of start l) codec trellis answer codec' trellis') is s in
-    receives_done (good (word_from count start air)) (counts_of count start air) none (t.answered, t.target, t.clears)
+received_slot count start air slot codec trellis heard answer codec' trellis' none is f a l =
+    let block : heard.block ≡ block_of start (slot_of count air) = f.block_is ∙ ap (block_of start) is in
+    let word : heard.word ≡ word_in (block_of start (slot_of count air)) = f.word_is ∙ ap (λ (s : List ℕ). word_in (block_of start s)) is in
+    let counts = f.counts ∙ ap (λ (s : List ℕ). disagreements speech 184 (mother_of (block_of start s)) (word_in (block_of start s))) is in
+    receives_done (good (word_from count start air)) (counts_of count start air) none (
+      a ∙ ap₂ (λ (v : List ℕ) (k : ℕ). checked (good v) (record { disagreements = k })) word counts,
+      l ∙ codec_over (map read_bit (take 102 heard.block) ++ take 172 heard.word) codec (receive_accepted count (length air) (length codec) (length trellis) none).room
+          ∙ ap₂ (λ (b v : List ℕ). written (codec_of (map read_bit (take 102 b) ++ take 172 v) (replicate 274 0)) codec) block word,
+      f.clears,
+    )
 
--- ---- the second half, behind the erasures that are supplied
-pub half_made : (air q : List ℕ) → 216 ≤ length air → q ≡ take 216 (take 216 air) → put_mid 216 216 (replicate 432 ERASED) q ≡ slot_of 216 air
-half_made air q h e =
-    ap (λ (l : List ℕ). replicate 216 ERASED ++ l) (append-nil q ∙ e ∙ take_all 216 (take 216 air) (omega (arith, length-take-le 216 air h)))
+-- ---- a slot's last symbols, behind the erasures that are supplied
+pub last_made : (count : ℕ) (air q : List ℕ) → count ≤ 432 → q ≡ take count air
+    → put_mid (432 - count) (432 - (432 - count)) (replicate 432 ERASED) q ≡ slot_of count air
+last_made count air q h e =
+    ap₂ (λ (x y : List ℕ). x ++ (q ++ y)) (take-replicate (432 - count) 432 ERASED (omega arith)) (Post-is (432 - count) 432 (replicate 432 ERASED) (omega arith))
+    ∙ ap (λ (l : List ℕ). replicate (432 - count) ERASED ++ l) (append-nil q ∙ e)

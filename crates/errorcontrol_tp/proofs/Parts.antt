@@ -2,43 +2,41 @@
 -- Assumes nothing.
 use mathlib.Core.Path.{◌≡◌, refl, sym, ap, ap₂, ◌∙◌}
 use mathlib.Core.List.{List, [], ◌∷◌, ◌++◌, map, foldr, zip_with, append_assoc, append-nil}
-use Prim.Native.Nat.{ℕ, zero, suc, ◌+◌, ◌≤◌, ◌<◌}
+use Prim.Native.Nat.{ℕ, ◌+◌, ◌≤◌}
 use native.Mathlib.Omega.{arith}
 use lib.Dec.{eqb}
 use borrow.Author.Tests.{le-ltb, eq-eqb, ne_eqb}
 use borrow.Rule.Slice.PartMut.{put_mid}
 use lib.ListN.{length, take, drop, get_or, replicate, length-append, length-drop, length-map, get_or-map}
-use lib.Seq.{length-take-le, get_or-take, take_all, take_at, drop_at}
-use mathlib.Core.Bool.{Bool, true, false}
-use Rattle.base.specs.Refusal.{unless}
+use lib.Seq.{length-take-le, get_or-take, take_at, drop_at}
+use mathlib.Core.Bool.{Bool, true, false, ◌&&◌}
+use lib.Pointwise.{pointwise}
+use Rattle.base.specs.Refusal.{accepted, unless}
 use Rattle.base.specs.Bits.{both}
 use Rattle.stages.proofs.Calls.{made, whole}
-use Rattle.errorcontrol_tp.specs.Receiving.{read_bit}
+use Rattle.errorcontrol_tp.specs.Receiving.{read_bit, good}
 use Rattle.base.specs.Places.{written, tabulate}
 use Rattle.base.proofs.Lists.{tabulate_of}
 use Rattle.speech_crc.specs.Check.{speech_check, check_refusal}
 use Rattle.speech_crc.proofs.Shape.{check_length}
 use Rattle.tch_reorder.specs.Order.{codec_of, reorder_refusal}
 
-pub reorder_free : (src dst : ℕ) → 274 ≤ src → 274 ≤ dst → reorder_refusal src dst ≡ 0
+pub reorder_free : (src dst : ℕ) → 274 ≤ src → 274 ≤ dst → reorder_refusal src dst ≡ accepted
 reorder_free src dst h k = rw (le-ltb src 274 h, le-ltb dst 274 k)
 
-pub check_free : (src dst : ℕ) → 60 ≤ src → 8 ≤ dst → check_refusal src dst ≡ 0
+pub check_free : (src dst : ℕ) → 60 ≤ src → 8 ≤ dst → check_refusal src dst ≡ accepted
 check_free src dst h k = rw (le-ltb src 60 h, le-ltb dst 8 k)
 
 -- ---- class 2 with its check
-module _ (channel p q : List ℕ) (long : length channel ≡ 274) (front : p ≡ take 60 (take 60 (drop 214 channel))) where
+module _ (channel p q : List ℕ) (long : length channel ≡ 274) (front : p ≡ take 60 (drop 214 channel)) where
   abbrev bits : List ℕ
   bits = take 60 (drop 214 channel)
 
   bits_long : length bits ≡ 60
   bits_long = length-take-le 60 (drop 214 channel) (omega (arith, length-drop 214 channel))
 
-  p_is : p ≡ bits
-  p_is = front ∙ take_all 60 bits (omega (arith, bits_long))
-
   pub p_long : length p ≡ 60
-  p_long = ap length p_is ∙ bits_long
+  p_long = ap length front ∙ bits_long
 
   pub room : length (p ++ replicate 12 0) ≡ 72
   room = length-append p (replicate 12 0) ∙ ap (λ (n : ℕ). n + 12) p_long
@@ -52,7 +50,7 @@ module _ (channel p q : List ℕ) (long : length channel ≡ 274) (front : p ≡
   pub class2_is : q ≡ unless (check_refusal (length bits) (length spare)) (written (speech_check bits) spare) spare
       → put_mid 60 8 (p ++ replicate 12 0) q ≡ bits ++ speech_check bits ++ replicate 4 0
   class2_is e =
-      ap₂ (λ (x y : List ℕ). x ++ (q ++ drop 8 y)) (take_at p (replicate 12 0) 60 p_long ∙ p_is) (drop_at p (replicate 12 0) 60 p_long)
+      ap₂ (λ (x y : List ℕ). x ++ (q ++ drop 8 y)) (take_at p (replicate 12 0) 60 p_long ∙ front) (drop_at p (replicate 12 0) 60 p_long)
       ∙ ap (λ (x : List ℕ). bits ++ (x ++ replicate 4 0)) made ∙ sym (append_assoc bits (speech_check bits) (replicate 4 0))
     where
       made : q ≡ speech_check bits
@@ -79,23 +77,16 @@ read_long block h = length-map (take 102 block) read_bit ∙ length-take-le 102 
 abbrev same : List ℕ → List ℕ → Bool
 same a b = foldr both true (zip_with eqb a b)
 
-pub same_all : (a b : List ℕ) → length a ≡ length b → ((k : ℕ) → k < length a → get_or a k 0 ≡ get_or b k 0) → same a b ≡ true
-unfolding zip_with
-same_all [] [] e h = refl
-same_all [] (y ∷ b) e h = absurd (omega arith)
-same_all (x ∷ a) [] e h = absurd (omega arith)
-same_all (x ∷ a) (y ∷ b) e h = ap₂ both (eq-eqb x y (h 0 (omega arith))) (same_all a b (omega arith) (λ k l. h (suc k) (omega arith)))
+both_and : (s t : Bool) → (s && t) ≡ both s t
+both_and true t = refl
+both_and false t = refl
 
-pub same_none : (a b : List ℕ) (i : ℕ) → i < length a → length a ≡ length b → (get_or a i 0 ≡ get_or b i 0 → ⊥) → same a b ≡ false
+same_pointwise : (a b : List ℕ) → length a ≡ length b → pointwise eqb a b ≡ same a b
 unfolding zip_with
-same_none [] b i l e h = absurd (omega arith)
-same_none (x ∷ a) [] i l e h = absurd (omega arith)
-same_none (x ∷ a) (y ∷ b) zero l e h = ap (λ (t : Bool). both t (same a b)) (ne_eqb x y h)
-same_none (x ∷ a) (y ∷ b) (suc i) l e h = last (eqb x y) (same_none a b i (omega arith) (omega arith) h)
-  where
-    last : (t : Bool) → same a b ≡ false → both t (same a b) ≡ false
-    last true q = q
-    last false q = refl
+same_pointwise [] [] e = refl
+same_pointwise [] (y ∷ b) e = absurd (omega arith)
+same_pointwise (x ∷ a) [] e = absurd (omega arith)
+same_pointwise (x ∷ a) (y ∷ b) e = both_and (eqb x y) (pointwise eqb a b) ∙ ap (both (eqb x y)) (same_pointwise a b (omega arith))
 
 -- ---- the verdict's two runs
 pub check_made : (word blank q : List ℕ) → length word ≡ 184 → length blank ≡ 8
@@ -111,36 +102,28 @@ check_made word blank q e l p =
     long : length bits ≡ 60
     long = length-take-le 60 (drop 112 word) (omega (arith, length-drop 112 word))
 
+-- what the two runs' equality says
+pub verdict : (word blank q : List ℕ) → length word ≡ 184 → length blank ≡ 8
+    → q ≡ unless (check_refusal (length (take 60 (drop 112 word))) (length blank)) (written (speech_check (take 60 (drop 112 word))) blank) blank
+    → pointwise eqb (take 8 (drop 172 word)) q ≡ good word
+unfolding good
+verdict word blank q e l p =
+    let made = check_made word blank q e l p in
+    let long : length (take 8 (drop 172 word)) ≡ length q =
+    omega (arith, length-take-le 8 (drop 172 word) (omega (arith, length-drop 172 word)), ap length made, check_length (take 60 (drop 112 word))) in
+    same_pointwise (take 8 (drop 172 word)) q long ∙ ap (same (take 8 (drop 172 word))) made
+
 -- ---- the channel frame from its two parts
 module _ (block word u p : List ℕ) (whole-block : length block ≡ 432) (whole_word : length word ≡ 184)
-    (read : u ≡ map read_bit (take 102 block)) (front : p ≡ take 102 u) where
+    (read : u ≡ map read_bit (take 102 block)) (front : p ≡ u) where
   u_long : length u ≡ 102
   u_long = ap length read ∙ read_long block (omega arith)
 
-  p_same : p ≡ u
-  p_same = front ∙ take_all 102 u (omega (arith, u_long))
-
   frame_p : length p ≡ 102
-  frame_p = ap length p_same ∙ u_long
+  frame_p = ap length front ∙ u_long
 
-  pub frame_room : length (p ++ replicate 172 0) ≡ 274
-  frame_room = length-append p (replicate 172 0) ∙ ap (λ (n : ℕ). n + 172) frame_p
-
-  pub frame_is : (q : List ℕ) → q ≡ take (length (take 172 (drop 102 (p ++ replicate 172 0)))) (take 172 word)
+  pub frame_is : (q : List ℕ) → q ≡ take 172 word
       → put_mid 102 172 (p ++ replicate 172 0) q ≡ map read_bit (take 102 block) ++ take 172 word
   frame_is q e =
-      ap₂ (λ (x y : List ℕ). x ++ (q ++ drop 172 y)) (take_at p (replicate 172 0) 102 frame_p ∙ p_same ∙ read) (drop_at p (replicate 172 0) 102 frame_p)
-      ∙ ap (λ (x : List ℕ). map read_bit (take 102 block) ++ x) (append-nil q ∙ e ∙ take_all (length (take 172 (drop 102 (p ++ replicate 172 0)))) (take 172 word) (omega (arith, long, spare)))
-    where
-      long : length (take 172 word) ≡ 172
-      long = length-take-le 172 word (omega arith)
-
-      spare : length (take 172 (drop 102 (p ++ replicate 172 0))) ≡ 172
-      spare = length-take-le 172 (drop 102 (p ++ replicate 172 0)) (omega (arith, length-drop 102 (p ++ replicate 172 0), frame_room))
-
--- ---- the codec bits handed over
-pub delivered : (channel frame codec left : List ℕ) → channel ≡ frame → length channel ≡ 274 → 274 ≤ length codec
-    → left ≡ unless (reorder_refusal (length channel) (length codec)) (codec_of channel codec) codec → left ≡ codec_of frame codec
-delivered channel frame codec left e l h p =
-    made (reorder_refusal (length channel) (length codec)) (codec_of channel codec) codec left (reorder_free (length channel) (length codec) (omega arith) h) p
-    ∙ ap (λ (x : List ℕ). codec_of x codec) e
+      ap₂ (λ (x y : List ℕ). x ++ (q ++ drop 172 y)) (take_at p (replicate 172 0) 102 frame_p ∙ front ∙ read) (drop_at p (replicate 172 0) 102 frame_p)
+      ∙ ap (λ (x : List ℕ). map read_bit (take 102 block) ++ x) (append-nil q ∙ e)

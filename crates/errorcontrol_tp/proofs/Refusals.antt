@@ -10,6 +10,8 @@ use borrow.Author.Tests.{ltb-false, not-false}
 use lib.ListN.{length, take, replicate, length-append, length-replicate}
 use lib.Seq.{length-take-le}
 use Rattle.base.specs.Bits.{bits_only, ERASED}
+use Rattle.base.specs.declared.Refusal.TheVariants as refusals
+use Rattle.base.specs.Refusal.{accepted}
 use Rattle.base.proofs.Refusals.{passed}
 use Rattle.errorcontrol_tp.specs.Sending.{send_refusal}
 use Rattle.errorcontrol_tp.specs.Receiving.{receive_refusal, slot_of}
@@ -19,11 +21,11 @@ pub record SendAccepted (count : ℕ) (codec : List ℕ) (air : ℕ) : Type 0 wh
   pub room : count ≤ air
   pub plain : bits_only 274 codec ≡ true
 
-pub send_accepted : (count : ℕ) (codec : List ℕ) (air : ℕ) → send_refusal count codec air ≡ 0 → SendAccepted count codec air
+pub send_accepted : (count : ℕ) (codec : List ℕ) (air : ℕ) → send_refusal count codec air ≡ accepted → SendAccepted count codec air
 send_accepted count codec air e =
-    let first = passed (ltb (length codec) 274) 1 _ e in
-    let second = passed (ltb air count) 2 _ first.1 in
-    let third = passed (not (bits_only 274 codec)) 3 _ second.1 in
+    let first = passed (ltb (length codec) 274) refusals.Short _ e in
+    let second = passed (ltb air count) refusals.Room _ first.1 in
+    let third = passed (not (bits_only 274 codec)) refusals.Bit _ second.1 in
     record {
       long = ltb-false (length codec) 274 first.0;
       room = ltb-false air count second.0;
@@ -35,11 +37,11 @@ pub record ReceiveAccepted (count air codec trellis : ℕ) : Type 0 where
   pub room : 274 ≤ codec
   pub steps : 184 ≤ trellis
 
-pub receive_accepted : (count air codec trellis : ℕ) → receive_refusal count air codec trellis ≡ 0 → ReceiveAccepted count air codec trellis
+pub receive_accepted : (count air codec trellis : ℕ) → receive_refusal count air codec trellis ≡ accepted → ReceiveAccepted count air codec trellis
 receive_accepted count air codec trellis e =
-    let first = passed (ltb air count) 1 _ e in
-    let second = passed (ltb codec 274) 2 _ first.1 in
-    let third = passed (ltb trellis 184) 2 _ second.1 in
+    let first = passed (ltb air count) refusals.Short _ e in
+    let second = passed (ltb codec 274) refusals.Room _ first.1 in
+    let third = passed (ltb trellis 184) refusals.Room _ second.1 in
     record {
       long = ltb-false air count first.0;
       room = ltb-false codec 274 second.0;

@@ -9,7 +9,8 @@ use borrow.Author.Tests.{le-ltb}
 use lib.ListN.{length, take, drop, replicate, get_or, length-replicate}
 use lib.Seq.{take_at, length-take-le}
 use Rattle.base.specs.declared.Counts.{Counts}
-use Rattle.base.specs.declared.Outcome.TheVariants.{Done}
+use Rattle.std.specs.Prelude.{Result, Ok}
+use Rattle.base.specs.declared.Refusal.{Refusal}
 use Rattle.base.specs.declared.Received.{Received}
 use Rattle.base.specs.declared.Received.TheVariants.{Good}
 use Rattle.base.specs.Bits.{Bits, bits_only}
@@ -88,8 +89,8 @@ module _ (start : ℕ) (codec air : List ℕ) (long : 274 ≤ length codec) (pla
       ∙ written_whole (take 274 codec) (replicate 274 0) (length-take-le 274 codec long)
 
 -- ---- what `encode_tp` left in its target and `decode_tp` received under the same start
-module _ (start : ℕ) (codec air air' target target' trellis trellis' : List ℕ) (answer : Received)
-    (sends : Sends 432 start codec air Done air') (room : 274 ≤ length target) (steps : 184 ≤ length trellis)
+module _ (start : ℕ) (codec air air' target target' trellis trellis' : List ℕ) (answer : Result Received Refusal)
+    (sends : Sends 432 start codec air accepted air') (room : 274 ≤ length target) (steps : 184 ≤ length trellis)
     (receives : Receives 432 start air' target trellis answer target' trellis') where
   done : (send_refusal 432 codec (length air) ≡ accepted) × (air' ≡ written (slot start codec) air)
   done = done_sent sends
@@ -106,13 +107,13 @@ module _ (start : ℕ) (codec air air' target target' trellis trellis' : List �
   none : receive_refusal 432 (length air') (length target) (length trellis) ≡ accepted
   none = rw (le-ltb (length air') 432 enough, le-ltb (length target) 274 room, le-ltb (length trellis) 184 steps)
 
-  heard : (answer ≡ checked (good (word_from 432 start air')) (counts_of 432 start air')) × (target' ≡ written (codec_bits 432 start air' (word_from 432 start air')) target)
+  heard : (answer ≡ Ok (checked (good (word_from 432 start air')) (counts_of 432 start air'))) × (target' ≡ written (codec_bits 432 start air' (word_from 432 start air')) target)
   heard = received_done (good (word_from 432 start air')) (counts_of 432 start air') receives none
 
-  pub round_trip_answer : answer ≡ Good (record { disagreements = 0 })
+  pub round_trip_answer : answer ≡ Ok (Good (record { disagreements = 0 }))
   round_trip_answer =
       heard.0
-      ∙ ap₂ (λ (t : Bool) (c : Counts). checked t c)
+      ∙ ap₂ (λ (t : Bool) (c : Counts). Ok (checked t c))
       (ap good (word_back start codec air' sendable.long sendable.plain as_sent)
       ∙ word_good (channel_of codec) (channel_long codec) (channel_plain codec sendable.long sendable.plain))
       (none_disagree start codec air' sendable.long sendable.plain as_sent)

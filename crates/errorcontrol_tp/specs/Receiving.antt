@@ -2,10 +2,11 @@
 -- or that puncturing dropped an erasure.
 -- Assumes nothing.
 use mathlib.Core.List.{List, ◌++◌, map, foldr, zip_with}
-use Rattle.std.specs.Prelude.{Bool, true, ℕ, ◌-◌, ltb, eqb, length, take, drop, replicate}
+use Rattle.std.specs.Prelude.{Result, Bool, true, ℕ, ◌-◌, ltb, eqb, length, take, drop, replicate}
 use Rattle.base.specs.declared.Counts.{Counts}
 use Rattle.base.specs.declared.Received.{Received}
-use Rattle.base.specs.Refusal.{ROOM, accepted, when, sized, reception}
+use Rattle.base.specs.declared.Refusal.{Refusal}
+use Rattle.base.specs.Refusal.{Owed, ROOM, accepted, when, sized, reception}
 use Rattle.base.specs.Bits.{both, ERASED}
 use Rattle.convenc.specs.Generators.{speech}
 use Rattle.puncturing.specs.Puncturing.{depunctured}
@@ -49,13 +50,13 @@ read_bit symbol = when (eqb symbol 1) 1 0
 unfoldable pub codec_bits : ℕ → ℕ → List ℕ → List ℕ → List ℕ
 codec_bits count start air w = codec_of (map read_bit (take 102 (block_of start (slot_of count air))) ++ take 172 w) (replicate 274 0)
 
-abbrev pub receive_refusal : ℕ → ℕ → ℕ → ℕ → ℕ
+abbrev pub receive_refusal : ℕ → ℕ → ℕ → ℕ → Owed
 receive_refusal count air codec trellis = sized air count codec 274 (when (ltb trellis 184) ROOM accepted)
 
 -- what `decode_tp` answers for 432 symbols and `decode_tp_half` for 216, where target and trellis have so many entries
-abbrev pub answer_of : ℕ → ℕ → List ℕ → ℕ → ℕ → Received
+abbrev pub answer_of : ℕ → ℕ → List ℕ → ℕ → ℕ → Result Received Refusal
 answer_of count start air codec trellis = reception (receive_refusal count (length air) codec trellis) (good (word_from count start air)) (counts_of count start air)
 
 -- and what they leave in them
-abbrev pub Receives : ℕ → ℕ → List ℕ → List ℕ → List ℕ → Received → List ℕ → List ℕ → Type 0
+abbrev pub Receives : ℕ → ℕ → List ℕ → List ℕ → List ℕ → Result Received Refusal → List ℕ → List ℕ → Type 0
 Receives count start air = ReceiveEntry (receive_refusal count (length air)) (answer_of count start air) (codec_bits count start air (word_from count start air)) 184

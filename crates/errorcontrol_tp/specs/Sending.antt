@@ -1,8 +1,7 @@
 -- Sending a speech slot (EN 300 395-2, 5.5): 274 codec bits as 432 air symbols, or as the last 216 of them.
 -- Assumes nothing.
 use Rattle.std.specs.Prelude.{List, ◌++◌, not, ℕ, ◌-◌, length, take, drop, replicate}
-use Rattle.base.specs.declared.Outcome.{Outcome}
-use Rattle.base.specs.Refusal.{BIT, accepted, when, sized}
+use Rattle.base.specs.Refusal.{Owed, BIT, accepted, when, sized}
 use Rattle.base.specs.Bits.{bits_only}
 use Rattle.trellis.specs.Nearest.{encode}
 use Rattle.convenc.specs.Generators.{outputs, speech}
@@ -31,9 +30,9 @@ on_air start block = scrambled start (matrix_interleaved 24 18 block (replicate 
 unfoldable pub slot : ℕ → List ℕ → List ℕ
 slot start codec = on_air start (take 102 (channel_of codec) ++ coded (word_of (channel_of codec)))
 
-abbrev pub send_refusal : ℕ → List ℕ → ℕ → ℕ
+abbrev pub send_refusal : ℕ → List ℕ → ℕ → Owed
 send_refusal count codec air = sized (length codec) 274 air count (when (not (bits_only 274 codec)) BIT accepted)
 
 -- what `encode_tp` answers and leaves in its target for 432 symbols, and `encode_tp_half` for the last 216: entries 217 to 432
-abbrev pub Sends : ℕ → ℕ → List ℕ → List ℕ → Outcome → List ℕ → Type 0
+abbrev pub Sends : ℕ → ℕ → List ℕ → List ℕ → Owed → List ℕ → Type 0
 Sends count start codec = SendEntry (send_refusal count codec) (drop (432 - count) (slot start codec))

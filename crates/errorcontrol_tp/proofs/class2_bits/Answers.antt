@@ -5,5 +5,5 @@ use Rattle.errorcontrol_tp.proofs.class2_bits.Goals as goal
 pub returns : goal.returns
 returns c =
     let channel = c.args.channel in
-    class2_is channel c.copy.new.target c.speech_crc.new.check (search rules)
-    c.copy.ensures c.speech_crc.ensures.1
+    class2_is channel c.copy_from_slice.new.self c.speech_crc.new.check (search rules)
+    c.copy_from_slice.ensures.after c.speech_crc.ensures.1

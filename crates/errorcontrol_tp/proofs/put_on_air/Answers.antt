@@ -3,4 +3,4 @@ use Rattle.errorcontrol_tp.proofs.put_on_air.Goals as goal
 
 pub returns : goal.returns
 unfolding on_air
-returns c = c.put_matrix_on_air.ensures
+returns c = c.put_on_air.ensures
