@@ -13,13 +13,13 @@ use mathlib.Core.Bool.{Bool, true, false, ◌&&◌}
 use lib.Pointwise.{pointwise}
 use Rattle.base.specs.Refusal.{accepted, unless}
 use Rattle.base.specs.Bits.{both}
-use Rattle.stages.proofs.Calls.{made, whole}
+use Rattle.stages.proofs.Calls.{whole}
 use Rattle.errorcontrol_tp.specs.Receiving.{read_bit, good}
 use Rattle.base.specs.Places.{written, tabulate}
 use Rattle.base.proofs.Lists.{tabulate_of}
 use Rattle.speech_crc.specs.Check.{speech_check, check_refusal}
 use Rattle.speech_crc.proofs.Shape.{check_length}
-use Rattle.tch_reorder.specs.Order.{codec_of, reorder_refusal}
+use Rattle.tch_reorder.specs.Order.{reorder_refusal}
 
 pub reorder_free : (src dst : ℕ) → 274 ≤ src → 274 ≤ dst → reorder_refusal src dst ≡ accepted
 reorder_free src dst h k = rw (le-ltb src 274 h, le-ltb dst 274 k)
