@@ -13,18 +13,6 @@ mod classes;
 use base::Refusal;
 use classes::CLASS_POS;
 
-fn reorder_refusal(source: usize, target: usize) -> Result<(), Refusal>
-    ensures { result ≡ reorder_refusal source target }
-{
-    if source < 274 {
-        return Err(Refusal::Short);
-    }
-    if target < 274 {
-        return Err(Refusal::Room);
-    }
-    Ok(())
-}
-
 // For each position in table order subframe 0's entry, then subframe 1's.
 fn to_channel(codec: &[u8], channel: &mut [u8])
     requires { (274 ≤ length codec.now) × (274 ≤ length channel.old) }
@@ -41,10 +29,10 @@ fn to_codec(channel: &[u8], codec: &mut [u8])
     requires { (274 ≤ length channel.now) × (274 ≤ length codec.old) }
     ensures { codec.new ≡ codec_of channel.now codec.old }
 {
-    for (i, position) in CLASS_POS.iter().enumerate() {
+    for (j, position) in CLASS_POS.iter().enumerate() {
         let at = *position as usize - 1;
-        codec[at] = channel[2 * i];
-        codec[137 + at] = channel[2 * i + 1];
+        codec[at] = channel[2 * j];
+        codec[137 + at] = channel[2 * j + 1];
     }
 }
 
@@ -53,7 +41,7 @@ pub fn codec_to_channel(codec: &[u8], channel: &mut [u8]) -> Result<(), Refusal>
     ensures { Leaves (reorder_refusal (length codec.now) (length channel.old))
         (written (channel_of codec.now) channel.old) channel.old channel.new result }
 {
-    reorder_refusal(codec.len(), channel.len())?;
+    base::inner::sized(codec.len(), 274, channel.len(), 274)?;
     to_channel(codec, channel);
     Ok(())
 }
@@ -63,7 +51,7 @@ pub fn channel_to_codec(channel: &[u8], codec: &mut [u8]) -> Result<(), Refusal>
     ensures { Leaves (reorder_refusal (length channel.now) (length codec.old))
         (codec_of channel.now codec.old) codec.old codec.new result }
 {
-    reorder_refusal(channel.len(), codec.len())?;
+    base::inner::sized(channel.len(), 274, codec.len(), 274)?;
     to_codec(channel, codec);
     Ok(())
 }

@@ -6,4 +6,4 @@ use Rattle.tch_reorder.proofs.channel_to_codec.Goals as goal
 pub to_codec-requires : goal.to_codec-requires
 to_codec-requires c =
     let a = c.args in
-    lengths (length a.channel.now) (length a.codec.now) (sym c.reorder_refusal.ensures ∙ c.in_ok-reorder_refusal.was)
+    lengths (length a.channel.now) (length a.codec.now) (sym c.sized.ensures ∙ c.in_ok-sized.was)
