@@ -40,6 +40,7 @@ struct Params {
 }
 
 // EN 300 392-2, 8.3.1, by kind.
+// Stays: the kind is a number here, since `encode_cp` and `decode_cp` take it as one; past this no number stands for it.
 #[tactic(auto, unfolding(interleaver::specs::Interleaving::shared, puncturing::specs::Puncturing::needed, puncturing::specs::Puncturing::position, crate::specs::Kinds::is_kind, crate::specs::Kinds::data_bits, crate::specs::Kinds::word_bits, crate::specs::Kinds::air_symbols, crate::specs::Kinds::interleaver_step))]
 fn get_params(kind: u8) -> Result<Params, Refusal>
     ensures { MatchResult result (λ p. Numbers kind p.block p.word p.air p.step) (IsUnknown kind) }
@@ -123,12 +124,7 @@ impl Params {
     fn send_refusal(self, data: &[u8], air: usize) -> Result<(), Refusal>
         ensures { result ≡ sized (length «data».now) self.block air self.air (when (not (bits_only self.block «data».now)) BIT accepted) }
     {
-        if data.len() < self.block {
-            return Err(Refusal::Short);
-        }
-        if air < self.air {
-            return Err(Refusal::Room);
-        }
+        base::inner::sized(data.len(), self.block, air, self.air)?;
         if base::inner::bits_only(&data[..self.block]) {
             return Ok(());
         }
@@ -149,25 +145,11 @@ impl Params {
     fn receive_refusal(self, air: usize, word: usize, trellis: usize) -> Result<(), Refusal>
         ensures { result ≡ sized air self.air word self.word (when (ltb trellis self.word) ROOM accepted) }
     {
-        if air < self.air {
-            return Err(Refusal::Short);
-        }
-        if word < self.word {
-            return Err(Refusal::Room);
-        }
+        base::inner::sized(air, self.air, word, self.word)?;
         if trellis < self.word {
             return Err(Refusal::Room);
         }
         Ok(())
-    }
-
-    // The nearest word to the mother symbols, over the front of the target, and what its check says.
-    fn settle(self, mother: &[u8], word: &mut [u8], trellis: &mut [u16]) -> Received
-        requires { (length mother.now ≡ 4 * self.word) × (self.word ≤ length word.old) × (self.word ≤ length trellis.old) }
-        ensures { Settles self.block self.word mother.now word.old trellis.old result word.new trellis.new }
-    {
-        let disagreements = viterbi::inner::control(mother, word, self.word, trellis);
-        judge(&word[..self.block + 16], disagreements)
     }
 
     // The nearest word to the air symbols, over the front of the target, and what its check says.
@@ -178,7 +160,8 @@ impl Params {
         let symbols = 4 * self.word;
         let mut mother = [0xffu8; 1152];
         self.on_air(start).take_off_air(air, &mut mother[..symbols]);
-        self.settle(&mother[..symbols], word, trellis)
+        let disagreements = viterbi::inner::control(&mother[..symbols], word, self.word, trellis);
+        judge(&word[..self.block + 16], disagreements)
     }
 }
 

@@ -1,6 +1,6 @@
 // The speech bits between the codec's order and the channel's, by sensitivity class (EN 300 395-2, table 4).
 // Ported from lmac/components/tch_reorder.rs; changed: slices are lent, too few entries are refused, the class tables are one.
-// A caller gets the 274 entries of its target, or a refusal number and the target as it was.
+// A caller gets the 274 entries of its target, or a refusal and the target as it was.
 #![tactic(auto)]
 
 ghost use Rattle.std.specs.Prelude.{◌≡◌, ◌≤◌, length};
