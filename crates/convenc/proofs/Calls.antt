@@ -42,19 +42,26 @@ clear = 0 ∷ 0 ∷ 0 ∷ 0 ∷ []
 clear_four : Four clear
 clear_four = record { len = refl; bits = (omega arith, (omega arith, (omega arith, (omega arith, tt)))) }
 
--- the two targets of one new encoder that is lent twice
-pub in_turn : (v w x x' y y' d e f : List ℕ) (one two : Owed) → d ≡ clear → Encoded speech d v x one e x' → Encoded speech e w y two f y'
-    → encode_refusal 3 clear v (length x) ≡ accepted → encode_refusal 3 clear w (length y) ≡ accepted → InTurn v w x x' y y'
-in_turn v w x x' y y' d e f one two new first second open-first open-second =
-    let granted = accepts 3 clear v (length x) open-first in
-    let further = accepts 3 clear w (length y) open-second in
-    let left = encodes speech clear v x one e x' (subst (λ (l : List ℕ). Encoded speech l v x one e x') new first) open-first in
-    let held_on : Four e = subst Four (sym left.1) (four_after clear v clear_four granted.input) in
-    let right = encodes speech e w y two f y' second
-    (encode_accepts 3 e w (length y) further.limit further.room further.input held_on.bits) in
-    record {
-      before = left.2;
-      beyond =
-          right.2
-          ∙ ap (λ (s : ℕ). written (encode (outputs speech) s w) y) (ap number left.1 ∙ held_after clear v clear_four granted.input);
-    }
+-- one new encoder that is lent twice, to calls that a new encoder would accept
+module _ (v w x x' d e : List ℕ) (one : Owed) (new : d ≡ clear) (first : Encoded speech d v x one e x') (open-first : encode_refusal 3 clear v (length x) ≡ accepted) where
+  left : (one ≡ accepted) × (e ≡ delays clear v) × (x' ≡ written (encode (outputs speech) 0 v) x)
+  left = encodes speech clear v x one e x' (subst (λ (l : List ℕ). Encoded speech l v x one e x') new first) open-first
+
+  input : Bits v
+  input = (accepts 3 clear v (length x) open-first).input
+
+  -- the second call is accepted too
+  pub still_accepts : (dst : ℕ) → encode_refusal 3 clear w dst ≡ accepted → encode_refusal 3 e w dst ≡ accepted
+  still_accepts dst open-second =
+      let further = accepts 3 clear w dst open-second in
+      let held_on : Four e = subst Four (sym left.1) (four_after clear v clear_four input) in
+      encode_accepts 3 e w dst further.limit further.room further.input held_on.bits
+
+  -- the two targets
+  pub in_turn : (y y' f : List ℕ) (two : Owed) → Encoded speech e w y two f y' → encode_refusal 3 clear w (length y) ≡ accepted → InTurn v w x x' y y'
+  in_turn y y' f two second open-second =
+      let right = encodes speech e w y two f y' second (still_accepts (length y) open-second) in
+      record {
+        before = left.2;
+        beyond = right.2 ∙ ap (λ (s : ℕ). written (encode (outputs speech) s w) y) (ap number left.1 ∙ held_after clear v clear_four input);
+      }

@@ -3,13 +3,13 @@ ghost use Rattle.std.specs.Prelude.{◌≡◌, [], ◌∷◌, length};
 ghost use Rattle.base.specs.Refusal.{accepted};
 ghost use Rattle.convenc.specs.Generators.{encode_refusal};
 ghost use Rattle.convenc.specs.private.Generators.{InTurn};
-// One new speech encoder, lent to two calls in a row: the second goes on from where the first ends. Neither refuses.
+// One new speech encoder, lent to two calls in a row: the second goes on from where the first ends. Neither can refuse: that is asked.
 pub fn encode_both(first: &[u8], second: &[u8], first_output: &mut [u8], second_output: &mut [u8])
     requires { (encode_refusal 3 (0 ∷ 0 ∷ 0 ∷ 0 ∷ []) first.now (length first_output.old) ≡ accepted)
         × (encode_refusal 3 (0 ∷ 0 ∷ 0 ∷ 0 ∷ []) second.now (length second_output.old) ≡ accepted) }
     ensures { InTurn first.now second.now first_output.old first_output.new second_output.old second_output.new }
 {
     let mut e = crate::SpeechConvEncState::new();
-    let _ = e.encode_lent(first, first_output);
-    let _ = e.encode_lent(second, second_output);
+    e.encode_lent(first, first_output).unwrap();
+    e.encode_lent(second, second_output).unwrap();
 }
