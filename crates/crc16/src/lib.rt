@@ -34,6 +34,7 @@ fn get_nth_bit(input: &[u8], bit: usize) -> u8
 }
 
 // The register after the first number_bits entries, or after all where there are fewer; each entry counts by its lowest bit.
+// Stays: C passes register, entries and count (caplattice_crc16_itut_bits), and so it does in the two forms below.
 pub fn crc16_itut_bits(crc: u16, input: &[u8], number_bits: usize) -> u16
     ensures { result ≡ register crc (take number_bits input.now) }
 {
@@ -42,6 +43,7 @@ pub fn crc16_itut_bits(crc: u16, input: &[u8], number_bits: usize) -> u16
 }
 
 // The register after the first number_bits bits of packed bytes that hold as many.
+// Stays: a count of bits beside the bytes, since the bits may end inside a byte.
 fn packed_bits(crc: u16, input: &[u8], number_bits: usize) -> u16
     requires { number_bits ≤ 8 * length input.now }
     ensures { result ≡ register crc (tabulate (bit_of input.now) number_bits) }

@@ -20,7 +20,7 @@ ghost use Rattle.errorcontrol_cp.specs.Receiving.{Receives};
 use base::{Counts, Received, Refusal};
 use stages::inner::Block;
 
-// Puncturing mode 2_3.
+// Puncturing mode 2_3. Stays: a mode is the number that puncturing looks its tables up by (docs/DECISIONS.md, "puncturing mode and kind").
 const MODE: u8 = 0;
 
 // A control kind's counts: data bits, word bits, air symbols, and the interleaver's step.
@@ -40,7 +40,7 @@ struct Params {
 }
 
 // EN 300 392-2, 8.3.1, by kind.
-// Stays: the kind is a number here, since `encode_cp` and `decode_cp` take it as one; past this no number stands for it.
+// Stays: `encode_cp` and `decode_cp` take a kind as a number, and C calls them; past this no number stands for it.
 #[tactic(auto, unfolding(interleaver::specs::Interleaving::shared, puncturing::specs::Puncturing::needed, puncturing::specs::Puncturing::position, crate::specs::Kinds::is_kind, crate::specs::Kinds::data_bits, crate::specs::Kinds::word_bits, crate::specs::Kinds::air_symbols, crate::specs::Kinds::interleaver_step))]
 fn get_params(kind: u8) -> Result<Params, Refusal>
     ensures { MatchResult result (λ p. Numbers kind p.block p.word p.air p.step) (IsUnknown kind) }

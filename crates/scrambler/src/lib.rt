@@ -102,6 +102,19 @@ impl Register {
         let four = ((self.bits >> (i % 32)) % 16) as usize;
         spread[four]
     }
+
+    // As much of a block as whole fours make, with the outputs taken off, and the register that the rest goes on from.
+    fn descramble_fours(self, block: &mut [u8]) -> Self
+        ensures { Begun self.bits (length block.old / 4 * 4) result.bits block.old block.new }
+    {
+        let spread = SPREAD;
+        let mut lfsr = self;
+        for q in 0..block.len() / 4 {
+            lfsr = lfsr.at(4 * q);
+            descramble_four(lfsr.outputs(&spread, 4 * q), block, 4 * q);
+        }
+        lfsr
+    }
 }
 
 // A received symbol with an output taken off.
@@ -133,24 +146,11 @@ fn descramble_four(outputs: [u8; 4], block: &mut [u8], at: usize)
     }
 }
 
-// As much of a block as whole fours make, with the outputs taken off, and the register that the rest goes on from.
-fn descramble_fours(lfsr_init: u32, block: &mut [u8]) -> Register
-    ensures { Begun lfsr_init (length block.old / 4 * 4) result.bits block.old block.new }
-{
-    let spread = SPREAD;
-    let mut lfsr = Register { bits: lfsr_init };
-    for q in 0..block.len() / 4 {
-        lfsr = lfsr.at(4 * q);
-        descramble_four(lfsr.outputs(&spread, 4 * q), block, 4 * q);
-    }
-    lfsr
-}
-
 // Receiving: a block of symbols without its scrambling. Every byte but 0 and 1 becomes an erasure.
 pub fn tetra_descramb_bits(lfsr_init: u32, block: &mut [u8])
     ensures { block.new ≡ descrambled lfsr_init block.old }
 {
-    let mut lfsr = descramble_fours(lfsr_init, block);
+    let mut lfsr = Register { bits: lfsr_init }.descramble_fours(block);
     for i in block.len() / 4 * 4..block.len() {
         lfsr = lfsr.at(i);
         block[i] = descramble_symbol(block[i], lfsr.output(i));

@@ -6,6 +6,7 @@ ghost use Rattle.interleaver.specs.Interleaving.{shared, interleaved, deinterlea
 ghost use Rattle.scrambler.specs.Scrambling.{scrambled, descrambled};
 
 // What a mode keeps of mother symbols, over the whole target.
+// Stays: a mode is a number here and below, since puncturing looks its tables up by it (docs/DECISIONS.md, "puncturing mode and kind").
 pub fn puncture(mode: u8, mother: &[u8], coded: &mut [u8])
     requires { (mode ≤ 6) × (length coded.old ≤ 4096) × (needed mode (length coded.old) ≤ length mother.now) }
     ensures { coded.new ≡ punctured mode (length coded.old) mother.now }
@@ -71,7 +72,12 @@ impl Block {
     {
         let mut plain = [0u8; 432];
         descramble(self.start, air, &mut plain[..self.count]);
-        interleaver::block_deinterleave(self.count, self.step, &plain[..self.count], coded).unwrap();
+        interleaver::block_deinterleave(
+            self.count,
+            self.step,
+            &plain[..self.count],
+            coded,
+        ).unwrap();
     }
 
     // The same, at the places that the mode keeps of a mother target; its other entries stay.

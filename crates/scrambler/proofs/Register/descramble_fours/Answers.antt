@@ -6,12 +6,12 @@ use Rattle.base.proofs.Lists.{write_none}
 use Rattle.scrambler.specs.Scrambling.{output, descrambled_symbol}
 use Rattle.scrambler.proofs.Outputs.{nexts_none}
 use Rattle.scrambler.proofs.Fours.{begun_more, rows_spread, begun_whole}
-use Rattle.scrambler.proofs.descramble_fours.Goals as goal
+use Rattle.scrambler.proofs.Register.descramble_fours.Goals as goal
 
 pub loop-q-init : goal.loop-q-init
 loop-q-init c =
     let a = c.args in
-    let x = a.lfsr_init in
+    let x = a.self.bits in
     record { register = sym (nexts_none x); long = refl; entries = write_none (λ j. descrambled_symbol (get_or a.block.now j 0) (output x j)) a.block.now }
 
 pub loop-q-preserved : goal.loop-q-preserved
@@ -20,7 +20,7 @@ loop-q-preserved c =
     let a = c.args in
     let m = c.at-lfsr in
     let o = c.outputs in
-    begun_more a.lfsr_init (4 * l.q) (4 * (l.q + 1)) l.lfsr.bits m.result.bits o.result a.block.now l.block _ (omega arith) (omega arith) (omega arith) l.invariant
+    begun_more a.self.bits (4 * l.q) (4 * (l.q + 1)) l.lfsr.bits m.result.bits o.result a.block.now l.block _ (omega arith) (omega arith) (omega arith) l.invariant
     m.ensures.0 m.ensures.1 o.ensures c.descramble_four.ensures
 
 pub outputs-requires : goal.outputs-requires
@@ -30,4 +30,4 @@ pub returns : goal.returns
 returns c =
     let a = c.args in
     let l = c.loop-q in
-    begun_whole a.lfsr_init (length a.block.now) (4 * l.q) l.lfsr.bits a.block.now l.block (omega arith) (omega arith) (omega arith) l.invariant
+    begun_whole a.self.bits (length a.block.now) (4 * l.q) l.lfsr.bits a.block.now l.block (omega arith) (omega arith) (omega arith) l.invariant
