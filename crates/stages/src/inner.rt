@@ -70,14 +70,10 @@ impl Block {
         requires { (self.count ≤ length air.now) × (length coded.old ≡ self.count) }
         ensures { coded.new ≡ deinterleaved self.count self.step (descrambled self.start (take self.count air.now)) }
     {
+        let k = self.count;
         let mut plain = [0u8; 432];
-        descramble(self.start, air, &mut plain[..self.count]);
-        interleaver::block_deinterleave(
-            self.count,
-            self.step,
-            &plain[..self.count],
-            coded,
-        ).unwrap();
+        descramble(self.start, air, &mut plain[..k]);
+        interleaver::block_deinterleave(k, self.step, &plain[..k], coded).unwrap();
     }
 
     // The same, at the places that the mode keeps of a mother target; its other entries stay.
