@@ -3,7 +3,6 @@
 use mathlib.Core.Path.{◌≡◌, refl, ap, ap₂, ◌∙◌, subst⁻¹}
 use mathlib.Core.Bool.{Bool, true, false}
 use mathlib.Core.List.{List, []}
-use mathlib.Core.Logic.{⊎_elim}
 use Prim.Native.Nat.{ℕ, zero, suc, ◌+◌, ◌-◌, ◌<◌}
 use native.Mathlib.Omega.{arith}
 use borrow.Author.Tests.{ltb-true, ltb-false}
@@ -15,7 +14,7 @@ use lib.Seq.{get_or-set_same, get_or-set_other}
 use mir.Syntax.{w8, w16}
 use mir.Val.{SFits, to_z, of_z}
 use mir.Facts.{to_z-of_z}
-use Rattle.viterbi.specs.private.Scores.{Sixteen, Trit, Table, sign_at, score_of, class_of, Classes, Rows, branch_of}
+use Rattle.viterbi.specs.private.Scores.{Sixteen, Trit, Sign, Table, sign_at, score_of, class_of, Classes, Rows, branch_of}
 use Rattle.viterbi.proofs.Signed.{fits, reads, neg_up, neg_down, mag_add}
 use Rattle.viterbi.proofs.Sixteen.{filled_more}
 
@@ -32,11 +31,22 @@ score_trit zero e h = h
 score_trit (suc zero) e h = trit_neg e h
 score_trit (suc (suc r)) e h = (omega arith, omega arith)
 
+-- a sign is -1 or 1
+pub by_sign : (P : ℤ → Type 0) → P (negsuc 0) → P (pos 1) → (e : ℤ) → Sign e → P e
+by_sign P a b (pos zero) h = absurd (omega arith)
+by_sign P a b (pos (suc zero)) h = b
+by_sign P a b (pos (suc (suc n))) h = absurd (omega arith)
+by_sign P a b (negsuc zero) h = a
+by_sign P a b (negsuc (suc n)) h = absurd (omega arith)
+
+sign_trit : (e : ℤ) → Sign e → Trit e
+sign_trit = by_sign Trit (omega arith, omega arith) (omega arith, omega arith)
+
 pub table_trit : (k : ℕ) (t : List (List ℤ)) → Table k t → (j : ℕ) → j < 4 → Sixteen Trit (get_or t j [])
 table_trit k t h j p s q = go (ltb j k) refl
   where
     go : (b : Bool) → ltb j k ≡ b → Trit (sign_at t j s)
-    go true e = ⊎_elim (λ o. subst⁻¹ Trit o (omega arith, omega arith)) (λ o. subst⁻¹ Trit o (omega arith, omega arith)) (h.signs j s (ltb-true j k e) q)
+    go true e = sign_trit (sign_at t j s) (h.signs j s (ltb-true j k e) q)
     go false e = subst⁻¹ Trit (h.rest j s (ltb-false j k e) p q) (omega arith, omega arith)
 
 -- ---- a sign made wider, and turned

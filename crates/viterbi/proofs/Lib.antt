@@ -11,6 +11,7 @@ pub mod Walks
 pub mod Codes
 pub mod Walking
 pub mod Answers
+pub mod Fronts
 pub mod Tables
 pub mod Promises
 pub mod Retired

@@ -1,7 +1,7 @@
 -- The pass over the symbols: before the first step, and one step more.
 -- Assumes nothing.
 use mathlib.Core.Path.{◌≡◌, refl, ap, ◌∙◌, subst, subst⁻¹}
-use mathlib.Core.List.{List, []}
+use mathlib.Core.List.{List}
 use Prim.Native.Nat.{ℕ, zero, suc, ◌+◌, ◌*◌, ◌/◌, ◌%◌, ◌^◌, ◌≤◌, ◌<◌}
 use native.Mathlib.Nat.{mul-suc, mul-zero, mul-le-mul_left}
 use native.Mathlib.Omega.{arith}
@@ -16,7 +16,7 @@ use Rattle.trellis.specs.Nearest.{total}
 use Rattle.trellis.specs.Walk.{before, branch}
 use Rattle.trellis.specs.Trellis.{metric, choice}
 use Rattle.trellis.proofs.Paths.{lesser_left}
-use Rattle.viterbi.specs.private.Scores.{Holds, Marks, Rows, Stands, Small, mirrored, earlier, Table, told, branch_of, first_way, second_way, better, oldest, Turned, handicap, received, Forward}
+use Rattle.viterbi.specs.private.Scores.{Holds, Marks, Stands, Small, mirrored, earlier, Table, told, branch_of, first_way, second_way, better, oldest, Turned, handicap, received, Forward}
 use Rattle.viterbi.proofs.Signed.{mag_of}
 use Rattle.viterbi.proofs.States.{mirrored_earlier, mirrored_handicap}
 use Rattle.viterbi.proofs.Windows.{branch_stands, branch_other}
@@ -27,9 +27,6 @@ use Rattle.viterbi.proofs.Refusals.{symbols_le}
 -- ---- places
 pub step_room : (k i n l : ℕ) → i < n → k * n ≤ l → k * i + k ≤ l
 step_room k i n l h r = omega (arith, mul-suc k i, mul-le-mul_left k h)
-
-pub step_place : (k i at : ℕ) → at ≡ k * i → at + k ≡ k * (i + 1)
-step_place k i at e = omega (arith, mul-suc k i, ap (λ (x : ℕ). k * x) (add-one i))
 
 module _ (k : ℕ) (t : List (List ℤ)) (table : Table k t) (src : List ℕ) where
   -- ---- scores are small
@@ -110,21 +107,3 @@ module _ (k : ℕ) (t : List (List ℤ)) (table : Table k t) (src : List ℕ) wh
           long = length-set now i taken ∙ f.long;
           rest = λ j h. get_or-set_other now i j taken 0 (omega arith) ∙ f.rest j (omega arith);
         })
-
--- ---- the same over every table that the rows are of
-abbrev pub RowsOf : List (List ℤ) → List (List ℤ) → List (List ℤ) → List (List ℤ) → List (List ℤ) → Type 0
-RowsOf t a b c d = Rows (get_or t 0 []) a × Rows (get_or t 1 []) b × Rows (get_or t 2 []) c × Rows (get_or t 3 []) d
-
-module _ (k : ℕ) (a b c d : List (List ℤ)) (src : List ℕ) where
-  abbrev pub Passed : ℕ → List ℤ → List ℕ → List ℕ → Type 0
-  Passed i m was now = (t : List (List ℤ)) → Table k t → RowsOf t a b c d → Forward k t src i m was now
-
-  pub passed_none : (was : List ℕ) → Passed 0 (set (replicate 16 (pos (2 * handicap 1))) 0 (pos 0)) was was
-  passed_none was t table r = forward_none k t table src was
-
-  pub passed_more : (i at : ℕ) → at ≡ k * i → k * i + k ≤ length src → (m bs new : List ℤ) (was now : List ℕ) (taken : ℕ) → Passed i m was now
-      → ((t : List (List ℤ)) → Rows (get_or t 0 []) a → Rows (get_or t 1 []) b → Rows (get_or t 2 []) c → Rows (get_or t 3 []) d → Holds (branch_of t k src at) bs)
-      → Turned m bs new taken → i < length now → Passed (i + 1) new was (set now i taken)
-  passed_more i at e room m bs new was now taken p br tu hi t table r =
-      forward_more k t table src i room m bs new was now taken (p t table r)
-      (λ s h. br t r.0 r.1 r.2 r.3 s h ∙ ap (λ (x : ℕ). branch_of t k src x s) e) tu hi

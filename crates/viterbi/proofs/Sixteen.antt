@@ -28,12 +28,12 @@ number f s zero = 0
 number f s (suc n) = f s + 2 * number f (suc s) n
 
 -- a pair of digits below the others
-pub number_pair : (f : ℕ → ℕ) (s t x y : ℕ) → 2 ≤ s → s ≤ 16 → t ≡ number f s (16 - s) → x ≡ f (s - 2) → y ≡ f (s - 2 + 1)
-    → t * 4 + (x + 2 * y) ≡ number f (s - 2) (16 - (s - 2))
-number_pair f s t x y h l e p q =
-    let n : 16 - (s - 2) ≡ suc (suc (16 - s)) = omega arith in
-    let u : suc (s - 2) ≡ s - 2 + 1 = omega arith in
-    let v : suc (s - 2 + 1) ≡ s = omega arith in
+pub number_pair : (f : ℕ → ℕ) (s r t x y : ℕ) → s ≡ r + 2 → s ≤ 16 → t ≡ number f s (16 - s) → x ≡ f r → y ≡ f (r + 1)
+    → t * 4 + (x + 2 * y) ≡ number f r (16 - r)
+number_pair f s r t x y h l e p q =
+    let n : 16 - r ≡ suc (suc (16 - s)) = omega arith in
+    let u : suc r ≡ r + 1 = omega arith in
+    let v : suc (r + 1) ≡ s = omega arith in
     rw (n, u, v) (omega arith)
 
 module _ (f : ℕ → ℕ) (bit : (j : ℕ) → f j < 2) where

@@ -2,10 +2,9 @@
 -- Assumes nothing.
 use mathlib.Core.Path.{◌≡◌, refl, sym, ap, ap₂, ◌∙◌, subst⁻¹}
 use mathlib.Core.List.{List, [], ◌∷◌}
-use mathlib.Core.Logic.{inl, inr}
 use Prim.Native.Nat.{ℕ, zero, suc, ◌+◌, ◌*◌, ◌/◌, ◌%◌, ◌-◌, ◌≤◌, ◌<◌}
 use native.Mathlib.Omega.{arith}
-use lib.IntN.{ℤ, pos, negsuc, ◌+ℤ◌}
+use lib.IntN.{ℤ, pos, ◌+ℤ◌}
 use lib.ListN.{length, get_or, take, drop}
 use lib.Seq.{drop-cons}
 use Rattle.base.specs.Bits.{Bits, disagrees, known}
@@ -14,13 +13,10 @@ use Rattle.base.proofs.BitLaws.{disagrees_other, bits_tabulate}
 use Rattle.trellis.specs.Nearest.{distance, total}
 use Rattle.viterbi.specs.private.Scores.{up, down, Stands, Sign, bit_of, mirrored, sign_at, Table, turned, told, score_of, branch_of}
 use Rattle.viterbi.proofs.Signed.{add_parts}
+use Rattle.viterbi.proofs.Branches.{by_sign}
 use Rattle.viterbi.proofs.States.{mirrored_lt, mirrored_back}
 
 -- ---- one symbol
-by_sign : (P : ℤ → Type 0) → P (negsuc 0) → P (pos 1) → (e : ℤ) → Sign e → P e
-by_sign P a b e (inl q) = subst⁻¹ P q a
-by_sign P a b e (inr q) = subst⁻¹ P q b
-
 sign_bit : (e : ℤ) → Sign e → bit_of e < 2
 sign_bit = by_sign (λ (e : ℤ). bit_of e < 2) (omega arith) (omega arith)
 

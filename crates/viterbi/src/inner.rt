@@ -1,32 +1,46 @@
 // The parts of the decoders: these ask something of their caller. The newest bit is the lowest of a state's number, so that the
 // two states before s are s / 2 and s / 2 + 8, and whole arrays are read in order.
-ghost use Rattle.std.specs.Prelude.{◌≡◌, List, [], ℕ, ◌+◌, ◌*◌, ◌≤◌, ◌<◌, ℤ, pos, ◌+ℤ◌, length, get_or, take};
+ghost use Rattle.std.specs.Prelude.{◌≡◌, List, [], ℕ, ◌+◌, ◌*◌, ◌≤◌, ◌<◌, pos, ◌+ℤ◌, length, get_or};
 ghost use Rattle.std.specs.Int.Signed.{mag};
 ghost use Rattle.base.specs.Bits.{known};
 ghost use Rattle.trellis.specs.Nearest.{total};
 ghost use Rattle.convenc.specs.Generators as codes;
 ghost use Rattle.viterbi.specs.Decoding.{decode_refusal};
-ghost use Rattle.viterbi.specs.private.Scores.{Sixteen, Holds, Marks, Small, Trit, Trits, Stands, Table, Tells, Rows, class_of, Classes, branch_of, first_way, second_way, better, oldest, Turned, Forward, walk_end, Back, down};
+ghost use Rattle.viterbi.specs.private.Scores.{Sixteen, Holds, Marks, Small, Trit, Stands, Table, Tells, Rows, class_of, Classes, branch_of, first_way, second_way, better, oldest, Turned, Forward, walk_end, Back, down};
 ghost use Rattle.viterbi.specs.private.Finding.{Finds};
 
 use base::Refusal;
 
-// Rows of expected bits, -1 for 0 and 1 for 1, at each state, its newest bit lowest, when the bit before the state's four was 0
-// (EN 300 392-2, 8.2.3.1.1).
-const CONTROL: [[i8; 16]; 4] = [
-    [-1, 1, 1, -1, -1, 1, 1, -1, -1, 1, 1, -1, -1, 1, 1, -1],
-    [-1, 1, -1, 1, 1, -1, 1, -1, 1, -1, 1, -1, -1, 1, -1, 1],
-    [-1, 1, 1, -1, 1, -1, -1, 1, -1, 1, 1, -1, 1, -1, -1, 1],
-    [-1, 1, 1, -1, -1, 1, 1, -1, 1, -1, -1, 1, 1, -1, -1, 1],
-];
+// A code as the decoder takes it: how many symbols a step has, and rows of expected bits, -1 for 0 and 1 for 1, at each state,
+// its newest bit lowest, when the bit before the state's four was 0.
+#[derive(Clone, Copy)]
+struct Code {
+    expected: [[i8; 16]; 4],
+    rate: usize,
+    ghost table: { Table rate expected },
+}
 
-// The same for the three generators of EN 300 395-2, 5.4.3.1, with a row of zeros.
-const SPEECH: [[i8; 16]; 4] = [
-    [-1, 1, 1, -1, 1, -1, -1, 1, 1, -1, -1, 1, -1, 1, 1, -1],
-    [-1, 1, 1, -1, -1, 1, 1, -1, 1, -1, -1, 1, 1, -1, -1, 1],
-    [-1, 1, -1, 1, 1, -1, 1, -1, -1, 1, -1, 1, 1, -1, 1, -1],
-    [0, 0, 0, 0, 0, 0, 0, 0, 0, 0, 0, 0, 0, 0, 0, 0],
-];
+// EN 300 392-2, 8.2.3.1.1.
+const CONTROL: Code = Code {
+    expected: [
+        [-1, 1, 1, -1, -1, 1, 1, -1, -1, 1, 1, -1, -1, 1, 1, -1],
+        [-1, 1, -1, 1, 1, -1, 1, -1, 1, -1, 1, -1, -1, 1, -1, 1],
+        [-1, 1, 1, -1, 1, -1, -1, 1, -1, 1, 1, -1, 1, -1, -1, 1],
+        [-1, 1, 1, -1, -1, 1, 1, -1, 1, -1, -1, 1, 1, -1, -1, 1],
+    ],
+    rate: 4,
+};
+
+// The three generators of EN 300 395-2, 5.4.3.1, with a row of zeros.
+const SPEECH: Code = Code {
+    expected: [
+        [-1, 1, 1, -1, 1, -1, -1, 1, 1, -1, -1, 1, -1, 1, 1, -1],
+        [-1, 1, 1, -1, -1, 1, 1, -1, 1, -1, -1, 1, 1, -1, -1, 1],
+        [-1, 1, -1, 1, 1, -1, 1, -1, -1, 1, -1, 1, 1, -1, 1, -1],
+        [0, 0, 0, 0, 0, 0, 0, 0, 0, 0, 0, 0, 0, 0, 0, 0],
+    ],
+    rate: 3,
+};
 
 // What the states other than 0 begin with: more than four steps can cost, and little enough for 864 steps in an i16.
 const HANDICAP: i16 = 4096;
@@ -76,6 +90,7 @@ fn class(classes: &[u8; 256], symbol: u8) -> usize
     classes[symbol as usize] as usize
 }
 
+// Stays: sums, first_ways, second_ways and lessers have one shape, but what each does to an entry is its whole contract.
 // Four rows added up.
 fn sums(a: [i16; 16], b: [i16; 16], c: [i16; 16], d: [i16; 16]) -> [i16; 16]
     requires { Sixteen Trit a × Sixteen Trit b × Sixteen Trit c × Sixteen Trit d }
@@ -88,28 +103,7 @@ fn sums(a: [i16; 16], b: [i16; 16], c: [i16; 16], d: [i16; 16]) -> [i16; 16]
     r
 }
 
-// The branch scores of a step, by the rows of its four generators.
-fn branches(
-    a: &[[i16; 16]; 3],
-    b: &[[i16; 16]; 3],
-    c: &[[i16; 16]; 3],
-    d: &[[i16; 16]; 3],
-    classes: &[u8; 256],
-    k: usize,
-    source: &[u8],
-    at: usize,
-) -> [i16; 16]
-    requires { Trits a.now × Trits b.now × Trits c.now × Trits d.now × Classes classes.now × (2 < k) × (at + k ≤ length source.now) }
-    ensures { (t : List (List ℤ)) → Rows (get_or t 0 []) a.now → Rows (get_or t 1 []) b.now → Rows (get_or t 2 []) c.now
-        → Rows (get_or t 3 []) d.now → Holds (branch_of t k source.now at) result }
-{
-    let p = class(classes, source[at]);
-    let q = class(classes, source[at + 1]);
-    let r = class(classes, source[at + 2]);
-    let s = class(classes, source[at + (k - 1)]);
-    sums(a[p], b[q], c[r], d[s])
-}
-
+// Stays: that scores are small is asked and no invariant of theirs, since a step alone may take them further; forward bounds them.
 // The scores of the ways into each state whose oldest bit is 0.
 fn first_ways(m: [i16; 16], b: [i16; 16]) -> [i16; 16]
     requires { Small 30000 m × Small 100 b }
@@ -164,9 +158,8 @@ fn choices(p: [i16; 16], q: [i16; 16]) -> u16
     ensures { Marks (λ s. oldest (get_or p s (pos 0)) (get_or q s (pos 0))) result }
 {
     let mut taken: u16 = 0;
-    let mut s: usize = 16;
-    while 0 < s {
-        s -= 2;
+    for pair in (0..8).rev() {
+        let s = 2 * pair;
         taken = taken * 4 + (chosen(p[s], q[s]) + 2 * chosen(p[s + 1], q[s + 1]));
     }
     taken
@@ -187,63 +180,26 @@ fn advance(old: Scores, b: [i16; 16]) -> Turn
     }
 }
 
-// The pass over n steps: the scores after them, and the choices at each in the trellis. The walk back over these choices from state 0
-// ends in state 0, so nobody has to look where it ends.
-fn forward(
-    expected: [[i8; 16]; 4],
-    k: usize,
-    source: &[u8],
-    n: usize,
-    trellis: &mut [u16],
-) -> Scores
-    requires { Table k expected × (n ≤ 864) × (k * n ≤ length source.now) × (n ≤ length trellis.old) }
-    ensures { Forward k expected source.now n result.m trellis.old trellis.new
-        × (walk_end trellis.new n 0 ≡ 0) }
-{
-    let classes = symbol_classes();
-    let a = rows(expected[0]);
-    let b = rows(expected[1]);
-    let c = rows(expected[2]);
-    let d = rows(expected[3]);
-    let mut first = [HANDICAP; 16];
-    first[0] = 0;
-    let mut scores = Scores { m: first };
-    let mut i: usize = 0;
-    let mut at: usize = 0;
-    while i < n {
-        let turn = advance(scores, branches(&a, &b, &c, &d, &classes, k, source, at));
-        trellis[i] = turn.taken;
-        let next = turn.scores;
-        scores = next;
-        at += k;
-        i += 1;
-    }
-    scores
-}
-
 // The walk back from state 0: it writes the word and clears the trellis.
-fn back(n: usize, trellis: &mut [u16], target: &mut [u8])
-    requires { (n ≤ length trellis.old) × (n ≤ length target.old) }
-    ensures { Back n trellis.old trellis.new target.old target.new }
+fn back(trellis: &mut [u16], target: &mut [u8])
+    requires { length target.old ≡ length trellis.old }
+    ensures { Back (length trellis.old) trellis.old trellis.new target.old target.new }
 {
-    let mut i = n;
     let mut s: u16 = 0;
-    while 0 < i {
-        i -= 1;
+    for i in (0..trellis.len()).rev() {
         target[i] = (s % 2) as u8;
         s = s / 2 + 8 * ((trellis[i] >> s) % 2);
         trellis[i] = 0;
     }
 }
 
-// How many of the first n symbols are bits.
-fn unerased(source: &[u8], n: usize) -> usize
-    requires { n ≤ length source.now }
-    ensures { result ≡ total known (take n source.now) }
+// How many of the symbols are bits.
+fn unerased(symbols: &[u8]) -> usize
+    ensures { result ≡ total known symbols.now }
 {
     let mut count: usize = 0;
-    for i in 0..n {
-        if source[i] < 2 {
+    for symbol in symbols {
+        if *symbol < 2 {
             count += 1;
         }
     }
@@ -285,31 +241,69 @@ pub fn refusal(
     Ok(())
 }
 
-// The decoder where nothing is refused: the disagreements of the word that it writes.
-fn run(
-    expected: [[i8; 16]; 4],
-    k: usize,
-    source: &[u8],
-    target: &mut [u8],
-    n: usize,
-    trellis: &mut [u16],
-) -> usize
-    requires { Table k expected × (n ≤ 864) × (k * n ≤ length source.now) × (n ≤ length trellis.old) × (n ≤ length target.old) }
-    ensures { (code : List (List ℕ)) → Tells code k expected
-        → Finds code n source.now target.old target.new trellis.old trellis.new result }
-{
-    let scores = forward(expected, k, source, n, trellis);
-    let z = scores.m[0];
-    back(n, trellis, target);
-    cost(z, unerased(source, k * n))
+impl Code {
+    // The branch scores of the step whose symbols begin at a place, by the rows of the four generators.
+    fn branches(
+        &self,
+        rows: &[[[i16; 16]; 3]; 4],
+        classes: &[u8; 256],
+        source: &[u8],
+        at: usize,
+    ) -> [i16; 16]
+        requires { ((j : ℕ) → j < 4 → Rows (get_or self.now.expected j []) (get_or rows.now j [])) × Classes classes.now × (at + self.now.rate ≤ length source.now) }
+        ensures { Holds (branch_of self.now.expected self.now.rate source.now at) result }
+    {
+        let p = class(classes, source[at]);
+        let q = class(classes, source[at + 1]);
+        let r = class(classes, source[at + 2]);
+        let s = class(classes, source[at + (self.rate - 1)]);
+        sums(rows[0][p], rows[1][q], rows[2][r], rows[3][s])
+    }
+
+    // The pass over as many steps as the trellis has entries: the scores after them, and the choices at each in the trellis. The walk
+    // back over these choices from state 0 ends in state 0, so nobody has to look where it ends.
+    fn forward(&self, source: &[u8], trellis: &mut [u16]) -> Scores
+        requires { (length trellis.old ≤ 864) × (self.now.rate * length trellis.old ≤ length source.now) }
+        ensures { Forward self.now.rate self.now.expected source.now (length trellis.old) result.m trellis.old trellis.new
+            × (walk_end trellis.new (length trellis.old) 0 ≡ 0) }
+    {
+        let classes = symbol_classes();
+        let e = self.expected;
+        let rows = [rows(e[0]), rows(e[1]), rows(e[2]), rows(e[3])];
+        let mut first = [HANDICAP; 16];
+        first[0] = 0;
+        let mut scores = Scores { m: first };
+        for i in 0..trellis.len() {
+            let turn = advance(
+                scores,
+                self.branches(&rows, &classes, source, self.rate * i),
+            );
+            trellis[i] = turn.taken;
+            scores = turn.scores;
+        }
+        scores
+    }
+
+    // The decoder where nothing is refused: the disagreements of the word that it writes, a bit for each step.
+    fn run(&self, source: &[u8], target: &mut [u8], trellis: &mut [u16]) -> usize
+        requires { (length trellis.old ≤ 864) × (length source.now ≡ self.now.rate * length trellis.old) × (length target.old ≡ length trellis.old) }
+        ensures { (code : List (List ℕ)) → Tells code self.now.rate self.now.expected
+            → Finds code (length trellis.old) source.now target.old target.new trellis.old trellis.new result }
+    {
+        let scores = self.forward(source, trellis);
+        let z = scores.m[0];
+        back(trellis, target);
+        cost(z, unerased(source))
+    }
 }
 
+// Stays: n beside the slices, since the contracts of control and of speech take slices that are longer.
 // The control decoder where nothing is refused.
 pub fn control(source: &[u8], target: &mut [u8], n: usize, trellis: &mut [u16]) -> usize
     requires { (n ≤ 864) × (4 * n ≤ length source.now) × (n ≤ length trellis.old) × (n ≤ length target.old) }
     ensures { Finds codes.control n source.now target.old target.new trellis.old trellis.new result }
 {
-    run(CONTROL, 4, source, target, n, trellis)
+    CONTROL.run(&source[..4 * n], &mut target[..n], &mut trellis[..n])
 }
 
 // The speech decoder where nothing is refused.
@@ -317,5 +311,5 @@ pub fn speech(source: &[u8], target: &mut [u8], n: usize, trellis: &mut [u16]) -
     requires { (n ≤ 864) × (3 * n ≤ length source.now) × (n ≤ length trellis.old) × (n ≤ length target.old) }
     ensures { Finds codes.speech n source.now target.old target.new trellis.old trellis.new result }
 {
-    run(SPEECH, 3, source, target, n, trellis)
+    SPEECH.run(&source[..3 * n], &mut target[..n], &mut trellis[..n])
 }

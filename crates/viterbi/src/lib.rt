@@ -10,6 +10,7 @@ use base::Refusal;
 
 pub mod inner;
 
+// Stays: two entries over one routine, since the contracts of dec_sb1 and of dec_speech name different codes.
 // Decodes sym_count steps of four control symbols each: 0 and 1 are bits, every other byte is an erasure. The value is the
 // number of disagreements of the word that was written.
 pub fn dec_sb1(

@@ -1,7 +1,7 @@
 -- Signed scores: what the decoder's own functions promise one another.
 -- A match lowers a score by one and a mismatch raises it by one, so n mismatches among k known symbols make 2 n less k.
 -- Assumes nothing.
-use Rattle.std.specs.Prelude.{◌≡◌, cond, List, [], ◌∷◌, reverse, ◌⊎◌, ℕ, zero, suc, ◌+◌, ◌*◌, ◌/◌, ◌%◌, ◌^◌, ◌-◌, ◌≤◌, ◌<◌, ℤ, pos, negsuc, neg_ℤ, ◌+ℤ◌, ◌-ℤ◌, length, get_or, take}
+use Rattle.std.specs.Prelude.{◌≡◌, cond, List, [], ◌∷◌, reverse, ℕ, zero, suc, ◌+◌, ◌*◌, ◌/◌, ◌%◌, ◌^◌, ◌-◌, ◌≤◌, ◌<◌, ℤ, pos, negsuc, neg_ℤ, ◌+ℤ◌, ◌-ℤ◌, length, get_or, take}
 use Rattle.std.specs.Int.Signed.{mag, lt_z}
 use Rattle.base.specs.Bits.{disagrees, known}
 use Rattle.base.specs.Places.{tabulate, written}
@@ -60,7 +60,7 @@ Trit e = (up e ≤ 1) × (down e ≤ 1)
 
 -- -1 or 1, for the bits 0 and 1
 abbrev pub Sign : ℤ → Type 0
-Sign e = (e ≡ negsuc 0) ⊎ (e ≡ pos 1)
+Sign e = up e + down e ≡ 1
 
 -- the bit of a sign
 abbrev pub bit_of : ℤ → ℕ
@@ -108,10 +108,6 @@ Classes l = (r : ℕ) → r < 256 → get_or l r 0 ≡ class_of r
 -- one row for each class, of what its symbols add where the signs e are expected
 abbrev pub Rows : List ℤ → List (List ℤ) → Type 0
 Rows e rows = (c s : ℕ) → c < 3 → s < 16 → get_or (get_or rows c []) s (pos 0) ≡ score_of c (get_or e s (pos 0))
-
--- rows of -1, 0 and 1
-abbrev pub Trits : List (List ℤ) → Type 0
-Trits rows = (c : ℕ) → c < 3 → Sixteen Trit (get_or rows c [])
 
 -- the branch into state s whose oldest bit is 0, by the k symbols from `at` on; of three the last stands again before the row of zeros
 abbrev pub branch_of : List (List ℤ) → ℕ → List ℕ → ℕ → ℕ → ℤ

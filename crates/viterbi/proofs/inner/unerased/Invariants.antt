@@ -6,5 +6,5 @@ use Rattle.base.specs.Bits.{known}
 use Rattle.trellis.specs.Nearest.{total}
 use Rattle.viterbi.proofs.inner.unerased.Given as goal
 
-abbrev pub invariant-loop-i : goal.invariant-loop-i
-invariant-loop-i l = (l.i ≤ l.n) × (l.count ≤ l.i) × (l.count ≡ total known (take l.i l.source))
+abbrev pub invariant-loop-symbol : goal.invariant-loop-symbol
+invariant-loop-symbol l = (l.count ≤ l.symbol-index) × (l.count ≡ total known (take l.symbol-index l.symbols))
