@@ -9,35 +9,34 @@ use borrow.Author.Tests.{lt-ltb, le-ltb, ne_eqb}
 use lib.ListN.{length, drop, length-drop}
 use Rattle.base.specs.declared.Counts.{Counts}
 use Rattle.base.specs.Bits.{bits_only}
-use Rattle.base.specs.Refusal.{SHORT, BIT, accepted, when, reception}
+use Rattle.std.specs.Prelude.{Ok, Err}
+use Rattle.base.specs.declared.Refusal.TheVariants.{Short}
+use Rattle.base.specs.Refusal.{Owed, BIT, accepted, when, valued, reception}
 use Rattle.records.specs.Kinds.{symbols_of, body_length}
 use Rattle.rm3014.specs.declared.Verdict.{Verdict}
-use Rattle.rm3014.specs.Verdict.{judged}
 use Rattle.errorcontrol_aach.specs.Receiving.{verdict_from}
 use Rattle.errorcontrol_cp.specs.Kinds.{is_kind, word_bits, air_symbols}
 use Rattle.errorcontrol_cp.specs.Receiving as control
 use Rattle.errorcontrol_tp.specs.Receiving as speech
 use Rattle.answers.specs.Answering.{of_received, of_judged, start_of, chain_of, answer_of}
-use Rattle.answers.specs.declared.Answer.TheVariants.{Refused}
 
 -- a receive chain that refuses nothing does not answer SHORT
-heard_not_short : (number : ℕ) (good : Bool) (counts : Counts) → number ≡ accepted → of_received (reception number good counts) ≡ Refused SHORT → ⊥
-heard_not_short zero true counts e f = let z : ◌≡◌ {A = ℕ} 0 1 = cc in omega arith
-heard_not_short zero false counts e f = let z : ◌≡◌ {A = ℕ} 0 1 = cc in omega arith
-heard_not_short (suc number) good counts e f = omega arith
+heard_not_short : (refusal : Owed) (good : Bool) (counts : Counts) → refusal ≡ accepted → of_received (reception refusal good counts) ≡ Err Short → ⊥
+heard_not_short (Ok done) good counts e f = absurd cc
+heard_not_short (Err refusal) good counts e f = absurd cc
 
 -- nor does the access field's, where it refuses nothing but entries that are no bits
-judged_not_short : (plain : Bool) (v : Verdict) → of_judged (judged (when (not plain) BIT accepted) v) ≡ Refused SHORT → ⊥
-judged_not_short true v f = let z : ◌≡◌ {A = ℕ} 0 1 = cc in omega arith
-judged_not_short false v f = let z : ◌≡◌ {A = ℕ} BIT SHORT = cc in omega arith
+judged_not_short : (plain : Bool) (v : Verdict) → of_judged (valued (when (not plain) BIT accepted) v) ≡ Err Short → ⊥
+judged_not_short true v f = absurd cc
+judged_not_short false v f = absurd cc
 
 module _ (start : ℕ) (air : List ℕ) where
-  control_not_short : (kind : ℕ) → control.receive_refusal kind (length air) 288 288 ≡ accepted → of_received (control.answer_of kind start air 288 288) ≡ Refused SHORT → ⊥
+  control_not_short : (kind : ℕ) → control.receive_refusal kind (length air) 288 288 ≡ accepted → of_received (control.answer_of kind start air 288 288) ≡ Err Short → ⊥
   control_not_short kind e =
       heard_not_short (control.receive_refusal kind (length air) 288 288) (control.good kind (control.word_from kind start air)) (control.counts_of kind start air) e
 
   -- ---- as many symbols as the record's kind says
-  pub chain_not_short : (kind : ℕ) → (symbols_of kind ≡ 0 → ⊥) → length air ≡ symbols_of kind → chain_of kind start air ≡ Refused SHORT → ⊥
+  pub chain_not_short : (kind : ℕ) → (symbols_of kind ≡ 0 → ⊥) → length air ≡ symbols_of kind → chain_of kind start air ≡ Err Short → ⊥
   unfolding symbols_of chain_of is_kind word_bits air_symbols
   chain_not_short zero k e = absurd (k refl)
   chain_not_short (suc zero) k e = control_not_short 1 (ap (λ (n : ℕ). control.receive_refusal 1 n 288 288) e)
@@ -55,7 +54,7 @@ module _ (start : ℕ) (air : List ℕ) where
   chain_not_short (suc (suc (suc (suc (suc (suc (suc (suc kind)))))))) k e = absurd (k refl)
 
   -- ---- fewer
-  pub chain_short : (kind : ℕ) → length air < symbols_of kind → chain_of kind start air ≡ Refused SHORT
+  pub chain_short : (kind : ℕ) → length air < symbols_of kind → chain_of kind start air ≡ Err Short
   unfolding symbols_of chain_of is_kind air_symbols
   chain_short zero h = absurd (omega arith)
   chain_short (suc zero) h = rw (lt-ltb (length air) 120 h)
@@ -73,11 +72,11 @@ module _ (kind : ℕ) (known : symbols_of kind ≡ 0 → ⊥) (body : List ℕ) 
   unfolding answer_of
   answer_is h = rw (ne_eqb (symbols_of kind) 0 known, le-ltb (length body) 4 h)
 
-  pub whole_never_short : length body ≡ body_length kind → answer_of kind body ≡ Refused SHORT → ⊥
+  pub whole_never_short : length body ≡ body_length kind → answer_of kind body ≡ Err Short → ⊥
   whole_never_short e f =
       chain_not_short (start_of body) (drop 4 body) kind known (omega (arith, length-drop 4 body))
       (sym (answer_is (omega arith)) ∙ f)
 
-  pub less_is_short : 4 ≤ length body → length body < body_length kind → answer_of kind body ≡ Refused SHORT
+  pub less_is_short : 4 ≤ length body → length body < body_length kind → answer_of kind body ≡ Err Short
   less_is_short h l =
       answer_is h ∙ chain_short (start_of body) (drop 4 body) kind (omega (arith, length-drop 4 body))
