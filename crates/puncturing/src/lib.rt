@@ -4,7 +4,7 @@
 #![tactic(auto)]
 
 ghost use Rattle.std.specs.Prelude.{◌≡◌, ℕ, ◌+◌, ◌*◌, ◌≤◌, ◌<◌, length};
-ghost use Rattle.base.specs.Refusal.{Leaves, accepted, sized};
+ghost use Rattle.base.specs.Refusal.{Leaves};
 ghost use Rattle.base.specs.Places.{written};
 ghost use Rattle.puncturing.specs.Puncturing.{puncture_refusal, depuncture_refusal, punctured, depunctured};
 ghost use Rattle.puncturing.specs.private.Tables.{Parameters};
@@ -82,8 +82,8 @@ impl Way for Depuncturing {
 }
 
 impl Puncturer {
-    ghost use Rattle.base.specs.Refusal.{LIMIT, valued, when};
     ghost use Rattle.std.specs.Prelude.{ltb};
+    ghost use Rattle.base.specs.Refusal.{LIMIT, accepted, valued, when};
     ghost use Rattle.puncturing.specs.Puncturing.{needed};
     ghost use Rattle.puncturing.specs.private.Ways.{Holds, Carries, carried};
     ghost use Rattle.puncturing.specs.private.Walk.{Opens, Lies, Stands};
@@ -206,19 +206,6 @@ impl Puncturer {
     }
 }
 
-// Whether source and target hold as many entries as they must.
-fn check_room(source: usize, least: usize, target: usize, room: usize) -> Result<(), Refusal>
-    ensures { result ≡ sized source least target room accepted }
-{
-    if source < least {
-        return Err(Refusal::Short);
-    }
-    if target < room {
-        return Err(Refusal::Room);
-    }
-    Ok(())
-}
-
 // Stays: two entries, since the contracts of get_punctured_rate and of tetra_rcpc_depunct differ; they share what they call.
 // Stays: len beside the slices, since the contracts of both take slices that are longer.
 // The outputs numbered 1 to len that the mode keeps of a mother word.
@@ -233,7 +220,7 @@ pub fn get_punctured_rate(
 {
     let p = Puncturer::of(mode)?;
     let mother = p.needed(len)?;
-    check_room(input.len(), mother, output.len(), len)?;
+    base::inner::sized(input.len(), mother, output.len(), len)?;
     p.carry::<Puncturing>(input, len, output);
     Ok(())
 }
@@ -250,7 +237,7 @@ pub fn tetra_rcpc_depunct(
 {
     let p = Puncturer::of(mode)?;
     let mother = p.needed(len)?;
-    check_room(input.len(), len, output.len(), mother)?;
+    base::inner::sized(input.len(), len, output.len(), mother)?;
     p.carry::<Depuncturing>(input, len, output);
     Ok(())
 }

@@ -11,5 +11,5 @@ carry-requires c =
     let a = c.args in
     let p = c.in_ok-p.p in
     let count = counted a.len (needed p.mode a.len) c.in_ok-mother.mother c.in_ok-mother.ensures in
-    let room = roomy (length a.input.now) a.len (length a.output.now) c.in_ok-mother.mother (sym c.check_room.ensures ∙ c.in_ok-check_room.was) in
+    let room = roomy (length a.input.now) a.len (length a.output.now) c.in_ok-mother.mother (sym c.sized.ensures ∙ c.in_ok-sized.was) in
     (count.0, holds_depuncturing p.mode a.len (length a.input.now) (length a.output.now) p.parameters.kind (omega (arith, room, count.1)) (omega (arith, room, count.1)))
