@@ -1,6 +1,6 @@
 // For C. Made by tools/boundary/make from crates/caplattice/src/chains.rt.
 ghost use Rattle.std.specs.Prelude.{◌≡◌};
-ghost use Rattle.base.specs.Refusal.{outcome};
+ghost use Rattle.base.specs.Refusal.{number_of};
 ghost use Rattle.errorcontrol_cp.specs.Sending.{Sends as SendsControl};
 ghost use Rattle.errorcontrol_cp.specs.Receiving.{Receives as ReceivesControl};
 ghost use Rattle.errorcontrol_tp.specs.Sending.{Sends as SendsSpeech};
@@ -14,7 +14,7 @@ ghost use Rattle.caplattice.specs.Promises.{Answers, Tells};
 #[unsafe(no_mangle)]
 pub extern "C" fn caplattice_encode_cp(kind: u8, start: u32, source: &[u8], target: &mut [u8]) -> u8
     ensures { Answers (λ x. SendsControl kind start source.now target.old x target.new)
-        (λ x. x ≡ outcome result) }
+        (λ x. result ≡ number_of x) }
 {
     caplattice::chains::caplattice_encode_cp(kind, start, source, target)
 }
@@ -37,7 +37,7 @@ pub extern "C" fn caplattice_decode_cp(
 #[unsafe(no_mangle)]
 pub extern "C" fn caplattice_encode_tp(start: u32, source: &[u8], target: &mut [u8]) -> u8
     ensures { Answers (λ x. SendsSpeech 432 start source.now target.old x target.new)
-        (λ x. x ≡ outcome result) }
+        (λ x. result ≡ number_of x) }
 {
     caplattice::chains::caplattice_encode_tp(start, source, target)
 }
@@ -45,7 +45,7 @@ pub extern "C" fn caplattice_encode_tp(start: u32, source: &[u8], target: &mut [
 #[unsafe(no_mangle)]
 pub extern "C" fn caplattice_encode_tp_half(start: u32, source: &[u8], target: &mut [u8]) -> u8
     ensures { Answers (λ x. SendsSpeech 216 start source.now target.old x target.new)
-        (λ x. x ≡ outcome result) }
+        (λ x. result ≡ number_of x) }
 {
     caplattice::chains::caplattice_encode_tp_half(start, source, target)
 }
@@ -81,7 +81,7 @@ pub extern "C" fn caplattice_decode_tp_half(
 #[unsafe(no_mangle)]
 pub extern "C" fn caplattice_encode_aach(start: u32, source: &[u8], target: &mut [u8]) -> u8
     ensures { Answers (λ x. SendEntry (send_refusal source.now) (sent start source.now) target.old x target.new)
-        (λ x. x ≡ outcome result) }
+        (λ x. result ≡ number_of x) }
 {
     caplattice::chains::caplattice_encode_aach(start, source, target)
 }

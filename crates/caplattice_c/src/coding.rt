@@ -1,9 +1,11 @@
 // For C. Made by tools/boundary/make from crates/caplattice/src/coding.rt.
 ghost use Rattle.std.specs.Prelude.{◌≡◌, length};
-ghost use Rattle.base.specs.Refusal.{outcome, Leaves};
+ghost use Rattle.base.specs.Refusal.{number_of, Leaves};
 ghost use Rattle.base.specs.Places.{written};
-ghost use Rattle.convenc.specs.declared.ConvEncoded.{ConvEncoded};
-ghost use Rattle.convenc.specs.declared.SpeechConvEncoded.{SpeechConvEncoded};
+ghost use Rattle.convenc.specs.declared.Coded.{Coded};
+ghost use Rattle.convenc.specs.declared.Control.{Control};
+ghost use Rattle.convenc.specs.declared.Speech.{Speech};
+ghost use Rattle.convenc.specs.declared.Encoder.{Encoder};
 ghost use Rattle.convenc.specs.Generators.{control, control_third, speech, Encoded};
 ghost use Rattle.puncturing.specs.Puncturing.{puncture_refusal, punctured, depuncture_refusal, depunctured};
 ghost use Rattle.comparing.specs.Comparing.{compare};
@@ -18,7 +20,7 @@ pub extern "C" fn caplattice_encode(
     target: &mut [u8],
     answer: &mut [u64; 6],
 ) -> u8
-    ensures { Answers (λ (x : ConvEncoded). Encoded control (delays_in delays) source.now target.old x.outcome x.state.delayed target.new)
+    ensures { Answers (λ (x : Coded (Encoder Control)). Encoded control (delays_in delays) source.now target.old x.outcome x.state.delayed target.new)
         (λ x. Tells (encoded_report x.outcome (delays_number x.state.delayed) answer.old) result answer.new) }
 {
     caplattice::coding::caplattice_encode(delays, source, target, answer)
@@ -31,7 +33,7 @@ pub extern "C" fn caplattice_encode_rate1_3(
     target: &mut [u8],
     answer: &mut [u64; 6],
 ) -> u8
-    ensures { Answers (λ (x : ConvEncoded). Encoded control_third (delays_in delays) source.now target.old x.outcome x.state.delayed target.new)
+    ensures { Answers (λ (x : Coded (Encoder Control)). Encoded control_third (delays_in delays) source.now target.old x.outcome x.state.delayed target.new)
         (λ x. Tells (encoded_report x.outcome (delays_number x.state.delayed) answer.old) result answer.new) }
 {
     caplattice::coding::caplattice_encode_rate1_3(delays, source, target, answer)
@@ -44,7 +46,7 @@ pub extern "C" fn caplattice_encode_speech(
     target: &mut [u8],
     answer: &mut [u64; 6],
 ) -> u8
-    ensures { Answers (λ (x : SpeechConvEncoded). Encoded speech (delays_in delays) source.now target.old x.outcome x.state.delayed target.new)
+    ensures { Answers (λ (x : Coded (Encoder Speech)). Encoded speech (delays_in delays) source.now target.old x.outcome x.state.delayed target.new)
         (λ x. Tells (encoded_report x.outcome (delays_number x.state.delayed) answer.old) result answer.new) }
 {
     caplattice::coding::caplattice_encode_speech(delays, source, target, answer)
@@ -58,7 +60,7 @@ pub extern "C" fn caplattice_get_punctured_rate(
     target: &mut [u8],
 ) -> u8
     ensures { Answers (Leaves (puncture_refusal mode n (length source.now) (length target.old)) (written (punctured mode n source.now) target.old) target.old target.new)
-        (λ x. x ≡ outcome result) }
+        (λ x. result ≡ number_of x) }
 {
     caplattice::coding::caplattice_get_punctured_rate(mode, source, n, target)
 }
@@ -71,7 +73,7 @@ pub extern "C" fn caplattice_tetra_rcpc_depunct(
     target: &mut [u8],
 ) -> u8
     ensures { Answers (Leaves (depuncture_refusal mode n (length source.now) (length target.old)) (depunctured mode n source.now target.old) target.old target.new)
-        (λ x. x ≡ outcome result) }
+        (λ x. result ≡ number_of x) }
 {
     caplattice::coding::caplattice_tetra_rcpc_depunct(mode, source, n, target)
 }

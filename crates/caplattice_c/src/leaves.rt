@@ -1,6 +1,6 @@
 // For C. Made by tools/boundary/make from crates/caplattice/src/leaves.rt.
 ghost use Rattle.std.specs.Prelude.{◌≡◌, length, take};
-ghost use Rattle.base.specs.Refusal.{accepted, outcome, Leaves, valued};
+ghost use Rattle.base.specs.Refusal.{number_of, Leaves, valued};
 ghost use Rattle.base.specs.Places.{tabulate, written};
 ghost use Rattle.crc16.specs.Crc.{register, bit_of, bytes_refusal};
 ghost use Rattle.scrambler.specs.Scrambling.{output, field_refusal, start_value, scrambled, send_refusal, descrambled};
@@ -8,7 +8,7 @@ ghost use Rattle.interleaver.specs.Interleaving.{block_refusal, interleaved, dei
 ghost use Rattle.tch_reorder.specs.Order.{reorder_refusal, channel_of, codec_of};
 ghost use Rattle.speech_crc.specs.Check.{check_refusal, speech_check};
 ghost use Rattle.rm3014.specs.Code.{code_word, data_of, syndrome};
-ghost use Rattle.rm3014.specs.Verdict.{judged, input_refusal, word_refusal, verdict};
+ghost use Rattle.rm3014.specs.Verdict.{input_refusal, word_refusal, verdict};
 ghost use Rattle.caplattice.specs.Answer.{saying, valued_report, judged_report};
 ghost use Rattle.caplattice.specs.Promises.{Answers, Tells};
 
@@ -46,7 +46,7 @@ pub extern "C" fn caplattice_crc16_ccitt_bits(source: &[u8], n: usize, answer: &
 
 #[unsafe(no_mangle)]
 pub extern "C" fn caplattice_tetra_scramb_get_bits(start: u32, target: &mut [u8]) -> u8
-    ensures { (result ≡ accepted) × (target.new ≡ tabulate (output start) (length target.old)) }
+    ensures { (result ≡ 0) × (target.new ≡ tabulate (output start) (length target.old)) }
 {
     caplattice::leaves::caplattice_tetra_scramb_get_bits(start, target)
 }
@@ -54,14 +54,14 @@ pub extern "C" fn caplattice_tetra_scramb_get_bits(start: u32, target: &mut [u8]
 #[unsafe(no_mangle)]
 pub extern "C" fn caplattice_tetra_scramb_bits(start: u32, target: &mut [u8]) -> u8
     ensures { Answers (Leaves (send_refusal target.old) (scrambled start target.old) target.old target.new)
-        (λ x. x ≡ outcome result) }
+        (λ x. result ≡ number_of x) }
 {
     caplattice::leaves::caplattice_tetra_scramb_bits(start, target)
 }
 
 #[unsafe(no_mangle)]
 pub extern "C" fn caplattice_tetra_descramb_bits(start: u32, target: &mut [u8]) -> u8
-    ensures { (result ≡ accepted) × (target.new ≡ descrambled start target.old) }
+    ensures { (result ≡ 0) × (target.new ≡ descrambled start target.old) }
 {
     caplattice::leaves::caplattice_tetra_descramb_bits(start, target)
 }
@@ -87,7 +87,7 @@ pub extern "C" fn caplattice_block_interleave(
     target: &mut [u8],
 ) -> u8
     ensures { Answers (Leaves (block_refusal k a (length source.now) (length target.old)) (interleaved k a source.now target.old) target.old target.new)
-        (λ x. x ≡ outcome result) }
+        (λ x. result ≡ number_of x) }
 {
     caplattice::leaves::caplattice_block_interleave(k, a, source, target)
 }
@@ -100,7 +100,7 @@ pub extern "C" fn caplattice_block_deinterleave(
     target: &mut [u8],
 ) -> u8
     ensures { Answers (Leaves (block_refusal k a (length source.now) (length target.old)) (written (deinterleaved k a source.now) target.old) target.old target.new)
-        (λ x. x ≡ outcome result) }
+        (λ x. result ≡ number_of x) }
 {
     caplattice::leaves::caplattice_block_deinterleave(k, a, source, target)
 }
@@ -113,7 +113,7 @@ pub extern "C" fn caplattice_matrix_interleave(
     target: &mut [u8],
 ) -> u8
     ensures { Answers (Leaves (matrix_refusal lines columns (length source.now) (length target.old)) (matrix_interleaved lines columns source.now target.old) target.old target.new)
-        (λ x. x ≡ outcome result) }
+        (λ x. result ≡ number_of x) }
 {
     caplattice::leaves::caplattice_matrix_interleave(lines, columns, source, target)
 }
@@ -126,7 +126,7 @@ pub extern "C" fn caplattice_matrix_deinterleave(
     target: &mut [u8],
 ) -> u8
     ensures { Answers (Leaves (matrix_refusal lines columns (length source.now) (length target.old)) (written (matrix_deinterleaved lines columns source.now) target.old) target.old target.new)
-        (λ x. x ≡ outcome result) }
+        (λ x. result ≡ number_of x) }
 {
     caplattice::leaves::caplattice_matrix_deinterleave(lines, columns, source, target)
 }
@@ -160,7 +160,7 @@ pub extern "C" fn caplattice_tetra_rm3014_decode_limited_ecc(
     codeword: u32,
     answer: &mut [u64; 6],
 ) -> u8
-    ensures { Answers (λ x. x ≡ judged (word_refusal codeword) (verdict codeword))
+    ensures { Answers (λ x. x ≡ valued (word_refusal codeword) (verdict codeword))
         (λ x. Tells (judged_report x answer.old) result answer.new) }
 {
     caplattice::leaves::caplattice_tetra_rm3014_decode_limited_ecc(codeword, answer)
@@ -169,7 +169,7 @@ pub extern "C" fn caplattice_tetra_rm3014_decode_limited_ecc(
 #[unsafe(no_mangle)]
 pub extern "C" fn caplattice_codec_to_channel(source: &[u8], target: &mut [u8]) -> u8
     ensures { Answers (Leaves (reorder_refusal (length source.now) (length target.old)) (written (channel_of source.now) target.old) target.old target.new)
-        (λ x. x ≡ outcome result) }
+        (λ x. result ≡ number_of x) }
 {
     caplattice::leaves::caplattice_codec_to_channel(source, target)
 }
@@ -177,7 +177,7 @@ pub extern "C" fn caplattice_codec_to_channel(source: &[u8], target: &mut [u8]) 
 #[unsafe(no_mangle)]
 pub extern "C" fn caplattice_channel_to_codec(source: &[u8], target: &mut [u8]) -> u8
     ensures { Answers (Leaves (reorder_refusal (length source.now) (length target.old)) (codec_of source.now target.old) target.old target.new)
-        (λ x. x ≡ outcome result) }
+        (λ x. result ≡ number_of x) }
 {
     caplattice::leaves::caplattice_channel_to_codec(source, target)
 }
@@ -185,7 +185,7 @@ pub extern "C" fn caplattice_channel_to_codec(source: &[u8], target: &mut [u8]) 
 #[unsafe(no_mangle)]
 pub extern "C" fn caplattice_speech_crc(source: &[u8], target: &mut [u8]) -> u8
     ensures { Answers (Leaves (check_refusal (length source.now) (length target.old)) (written (speech_check source.now) target.old) target.old target.new)
-        (λ x. x ≡ outcome result) }
+        (λ x. result ≡ number_of x) }
 {
     caplattice::leaves::caplattice_speech_crc(source, target)
 }
