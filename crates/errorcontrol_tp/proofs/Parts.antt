@@ -5,13 +5,14 @@ use mathlib.Core.List.{List, [], ◌∷◌, ◌++◌, map, foldr, zip_with, appe
 use Prim.Native.Nat.{ℕ, ◌+◌, ◌≤◌}
 use native.Mathlib.Omega.{arith}
 use lib.Dec.{eqb}
-use borrow.Author.Tests.{le-ltb, eq-eqb, ne_eqb}
+use borrow.Author.Tests.{le-ltb}
 use borrow.Rule.Slice.PartMut.{put_mid}
 use lib.ListN.{length, take, drop, get_or, replicate, length-append, length-drop, length-map, get_or-map}
 use lib.Seq.{length-take-le, get_or-take, take_at, drop_at}
 use mathlib.Core.Bool.{Bool, true, false, ◌&&◌}
 use lib.Pointwise.{pointwise}
-use Rattle.base.specs.Refusal.{accepted, unless}
+use Rattle.base.specs.Refusal.{accepted, unless, when}
+use mir.Val.{bool_byte}
 use Rattle.base.specs.Bits.{both}
 use Rattle.stages.proofs.Calls.{whole}
 use Rattle.errorcontrol_tp.specs.Receiving.{read_bit, good}
@@ -59,11 +60,9 @@ module _ (channel p q : List ℕ) (long : length channel ≡ 274) (front : p ≡
           (check_free (length bits) (length spare) (omega (arith, bits_long)) (omega (arith, spare_long))) (check_length bits ∙ sym spare_long) e
 
 -- ---- the channel frame
-pub read_one : (r : ℕ) → r ≡ 1 → 1 ≡ read_bit r
-read_one r e = rw (eq-eqb r 1 e)
-
-pub read_other : (r : ℕ) → (r ≡ 1 → ⊥) → 0 ≡ read_bit r
-read_other r h = rw (ne_eqb r 1 h)
+pub byte_when : (t : Bool) → bool_byte t ≡ when t 1 0
+byte_when true = refl
+byte_when false = refl
 
 pub read_map : (n : ℕ) (l : List ℕ) → n ≤ length l → tabulate (λ j. read_bit (get_or l j 0)) n ≡ map read_bit (take n l)
 read_map n l h =

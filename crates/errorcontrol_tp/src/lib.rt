@@ -85,6 +85,7 @@ fn block_bits(channel: [u8; 274], mothers: Mothers) -> [u8; 432]
     block
 }
 
+// Stays: put_on_air and take_off_air are apart, since each calls its own method of the matrix, the other's inverse.
 // A block through the matrix of 24 lines and 18 columns, scrambled.
 fn put_on_air(start: u32, block: [u8; 432]) -> [u8; 432]
     requires { Bits block }
@@ -121,6 +122,7 @@ fn send_last(count: usize, start: u32, codec: &[u8], air: &mut [u8]) -> Result<(
     Ok(())
 }
 
+// Stays: encode_tp and encode_tp_half are two entries over one routine, and so are decode_tp and decode_tp_half: the C interface has each.
 // Sends a whole slot: 274 codec bits as 432 air symbols. SHORT, ROOM, BIT.
 pub fn encode_tp(start: u32, codec: &[u8], air: &mut [u8]) -> Result<(), Refusal>
     ensures { Sends 432 start codec.now air.old result air.new }
@@ -180,7 +182,7 @@ fn mother_symbols(block: [u8; 432]) -> [u8; 552]
 fn read_bit(symbol: u8) -> u8
     ensures { result ≡ read_bit symbol }
 {
-    if symbol == 1 { 1 } else { 0 }
+    u8::from(symbol == 1)
 }
 
 // The uncoded bits of a block.
@@ -188,8 +190,8 @@ fn uncoded_bits(block: [u8; 432]) -> [u8; 102]
     ensures { result ≡ map read_bit (take 102 block) }
 {
     let mut bits = [0u8; 102];
-    for i in 0..102 {
-        bits[i] = read_bit(block[i]);
+    for (i, bit) in bits.iter_mut().enumerate() {
+        *bit = read_bit(block[i]);
     }
     bits
 }

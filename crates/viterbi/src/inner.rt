@@ -297,7 +297,7 @@ impl Code {
     }
 }
 
-// Stays: n beside the slices, since the contracts of control and of speech take slices that are longer.
+// Stays: control and speech are two entries over one routine; and n is beside their slices, since their contracts take longer ones.
 // The control decoder where nothing is refused.
 pub fn control(source: &[u8], target: &mut [u8], n: usize, trellis: &mut [u16]) -> usize
     requires { (n ≤ 864) × (4 * n ≤ length source.now) × (n ≤ length trellis.old) × (n ≤ length target.old) }

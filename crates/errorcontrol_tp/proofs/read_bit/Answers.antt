@@ -1,9 +1,7 @@
-use Rattle.errorcontrol_tp.proofs.Parts.{read_one, read_other}
+use mathlib.Core.Path.{◌∙◌}
+use lib.Dec.{eqb}
+use Rattle.errorcontrol_tp.proofs.Parts.{byte_when}
 use Rattle.errorcontrol_tp.proofs.read_bit.Goals as goal
 
--- Each answer by the test that led to it.
-pub returns-then-symbol-eq1 : goal.returns-then-symbol-eq1
-returns-then-symbol-eq1 c = read_one c.args.symbol c.if-symbol-eq1.true
-
-pub returns-else-symbol-eq1 : goal.returns-else-symbol-eq1
-returns-else-symbol-eq1 c = read_other c.args.symbol c.if-symbol-eq1.false
+pub returns : goal.returns
+returns c = c.from.ensures ∙ byte_when (eqb c.args.symbol 1)

@@ -7,4 +7,4 @@ use Rattle.errorcontrol_tp.specs.Receiving.{read_bit}
 use Rattle.errorcontrol_tp.proofs.uncoded_bits.Given as goal
 
 abbrev pub invariant-loop-i : goal.invariant-loop-i
-invariant-loop-i l = (l.i ≤ 102) × (l.bits ≡ written (tabulate (λ j. read_bit (get_or l.block j 0)) l.i) (replicate 102 0))
+invariant-loop-i l = (l.i ≤ 102) × (l.bit-items ≡ written (tabulate (λ j. read_bit (get_or l.block j 0)) l.i) (replicate 102 0))
