@@ -1,9 +1,12 @@
-// The head of a record (compare/FORMAT.md): numbers, big-endian; 0 where the list has ended.
-ghost use Rattle.std.specs.Prelude.{◌≤◌};
+// The head of a record (compare/FORMAT.md): numbers, big-endian.
+ghost use Rattle.std.specs.Prelude.{◌+◌, ◌≤◌, length};
+
+// How many bytes it has.
+pub const BYTES: usize = 38;
 
 // Which entry is asked, and the three numbers of the request, each in the widths of the parameters that it can be.
 #[derive(Clone, Copy)]
-pub struct Numbers {
+pub struct Request {
     pub entry: u8,
     pub kind: u8,
     pub half: u16,
@@ -15,9 +18,10 @@ pub struct Numbers {
     pub third: u8,
 }
 
-// How long the slices are, what fills the target, and the answer.
+// A request, how long the slices are, what fills the target, and the answer.
 #[derive(Clone, Copy)]
 pub struct Head {
+    pub request: Request,
     pub source: usize,
     pub target: usize,
     pub seed: u8,
@@ -27,58 +31,50 @@ pub struct Head {
     pub zeroed: usize,
 }
 
-fn byte(s: &[u8], i: usize) -> u8 {
-    if i < s.len() { s[i] } else { 0 }
+// Eight bytes as one number.
+fn number(bytes: &[u8]) -> u64 {
+    bytes.iter().fold(0, |n, byte| (n << 8) | *byte as u64)
 }
 
-fn wide(x: u8) -> u64 {
-    x as u64
-}
-
-// Bytes from to to - 1 as one number.
-fn number(s: &[u8], from: usize, to: usize) -> u64 {
-    let mut n: u64 = 0;
-    for i in from..to {
-        n = (n << 8) | wide(byte(s, i));
-    }
-    n
-}
-
-fn count(s: &[u8], from: usize, to: usize) -> usize
+// The two bytes from a place on as one number.
+fn count(s: &[u8], at: usize) -> usize
+    requires { at + 2 ≤ length s.now }
     ensures { result ≤ 65535 }
 {
-    (number(s, from, to) % 65536) as usize
+    u16::from_be_bytes([s[at], s[at + 1]]) as usize
 }
 
-fn cut(entry: u8, first: u64, second: u64, third: u8) -> Numbers {
-    Numbers {
-        entry: entry,
-        kind: (first % 256) as u8,
-        half: (first % 65536) as u16,
-        word: (first % 4294967296) as u32,
-        size: first as usize,
-        second_half: (second % 65536) as u16,
-        second_word: (second % 4294967296) as u32,
-        second_size: second as usize,
-        third: third,
+impl Request {
+    fn new(entry: u8, first: u64, second: u64, third: u8) -> Request {
+        Request {
+            entry,
+            kind: (first % 256) as u8,
+            half: (first % 65536) as u16,
+            word: (first % 4294967296) as u32,
+            size: first as usize,
+            second_half: (second % 65536) as u16,
+            second_word: (second % 4294967296) as u32,
+            second_size: second as usize,
+            third,
+        }
     }
 }
 
-pub fn request(s: &[u8]) -> Numbers {
-    cut(byte(s, 0), number(s, 1, 9), number(s, 9, 17), byte(s, 18))
-}
-
-pub fn read(s: &[u8]) -> Head
-    ensures source_bound { result.source ≤ 65535 }
-    ensures written_bound { result.written ≤ 65535 }
-{
-    Head {
-        source: count(s, 19, 21),
-        target: count(s, 21, 23),
-        seed: byte(s, 23),
-        trellis: count(s, 24, 26),
-        answer: number(s, 26, 34),
-        written: count(s, 34, 36),
-        zeroed: count(s, 36, 38),
+impl Head {
+    pub fn read(s: &[u8]) -> Head
+        requires { 38 ≤ length s.now }
+        ensures source_bound { result.source ≤ 65535 }
+        ensures written_bound { result.written ≤ 65535 }
+    {
+        Head {
+            request: Request::new(s[0], number(&s[1..9]), number(&s[9..17]), s[18]),
+            source: count(s, 19),
+            target: count(s, 21),
+            seed: s[23],
+            trellis: count(s, 24),
+            answer: number(&s[26..34]),
+            written: count(s, 34),
+            zeroed: count(s, 36),
+        }
     }
 }

@@ -14,7 +14,11 @@ mod said;
 mod say;
 mod shape;
 
-use head::{Head, Numbers};
+use head::Head;
+use shape::Shape;
+
+// Stays: a record may say this number, which no entry has, of a trellis that is not as it says; it then counts as equal, as it always did.
+const DIFFERENT: u8 = 255;
 
 // What became of a request, and how many bytes its record has.
 #[derive(Clone, Copy)]
@@ -24,35 +28,48 @@ struct Turn {
     length: usize,
 }
 
-// How much of its source an entry is lent as its target's front.
-fn lent(entry: u8, n: usize) -> usize
-    ensures { result ≤ n }
-{
-    if shape::shape(entry) == b's' { n } else { 0 }
-}
-
-// How long the target is: as long as the source that is lent, or else as the record says.
-fn target_length(lent: usize, said: usize) -> usize {
-    if lent == 0 { said } else { lent }
-}
-
-// Whether a call's answer is the record's.
-fn same_answer(a: Numbers, h: Head, refusal: u8, said: [u64; 6]) -> bool {
-    said::packed(refusal, said, said::delays(shape::shape(a.entry), a.word)) == h.answer
+// The number of the refusal, or 0; DIFFERENT where the trellis is not as the record says, or there is no room for it.
+fn answered(shape: Shape, head: Head, source: &[u8], target: &mut [u8], said: &mut [u64; 6]) -> u8 {
+    let lent = if shape == Shape::Decoder {
+        head.trellis
+    } else {
+        0
+    };
+    if 1024 < lent {
+        return DIFFERENT;
+    }
+    let mut trellis = before::trellis();
+    let refusal = asked::refusal(head.request, source, target, &mut trellis[..lent], said);
+    if shape == Shape::Decoder && !before::same_trellis(&trellis, head.zeroed) {
+        return DIFFERENT;
+    }
+    refusal
 }
 
 // Whether the entry answers as the record says and leaves the target that the record says.
-fn repeated(a: Numbers, h: Head, source: &[u8], written: &[u8]) -> bool {
-    let k = lent(a.entry, source.len());
-    let n = target_length(k, h.target);
+fn repeated(shape: Shape, head: Head, source: &[u8], written: &[u8]) -> bool {
+    // How much of its source the entry is lent as its target's front.
+    let lent = if shape == Shape::InPlace {
+        source.len()
+    } else {
+        0
+    };
+    // The target is as long as the source that is lent, or else as the record says.
+    let n = if lent == 0 { head.target } else { lent };
     if 65536 < n {
         return false;
     }
-    let before = before::filled(h.seed, &source[..k], n);
+    let before = before::filled(head.seed, &source[..lent], n);
     let mut target = before;
     let mut said = [0u64; 6];
-    let refusal = asked::refusal(a, h, source, &mut target[..n], &mut said);
-    same_answer(a, h, refusal, said) & before::same_target(before, written, target, n)
+    let refusal = answered(shape, head, source, &mut target[..n], &mut said);
+    let delays = if shape == Shape::Encoder {
+        head.request.word as u64
+    } else {
+        0
+    };
+    said::packed(refusal, said, delays) == head.answer
+        && before::same_target(&before[..n], written, &target[..n])
 }
 
 // The first record of what is left of the list. One that is cut does not count as equal, and nothing is left after it.
@@ -61,21 +78,28 @@ fn record(rest: &[u8]) -> Turn
     ensures length_nonzero { 0 < result.length }
     ensures length_in_bounds { result.length ≤ length rest.now }
 {
-    let a = head::request(rest);
-    let h = head::read(rest);
-    let start = 38 + h.source;
-    let end = start + h.written;
-    if rest.len() < end {
-        return Turn {
-            entry: a.entry,
-            equal: false,
-            length: rest.len(),
-        };
+    let entry = rest[0];
+    let cut = Turn {
+        entry,
+        equal: false,
+        length: rest.len(),
+    };
+    if rest.len() < head::BYTES {
+        return cut;
     }
-    let equal = repeated(a, h, &rest[38..start], &rest[start..end]);
+    let head = Head::read(rest);
+    let start = head::BYTES + head.source;
+    let end = start + head.written;
+    if rest.len() < end {
+        return cut;
+    }
+    let equal = match Shape::of(entry) {
+        Some(shape) => repeated(shape, head, &rest[head::BYTES..start], &rest[start..end]),
+        None => false,
+    };
     Turn {
-        entry: a.entry,
-        equal: equal & (a.entry < 34),
+        entry,
+        equal,
         length: end,
     }
 }
