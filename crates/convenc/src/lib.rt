@@ -29,9 +29,9 @@ pub trait Code: Copy {
     ghost RATE: { ℕ };
 
     // The outputs of one bit, from place at on. The delays are the four bits before it, the newest first.
-    fn outputs(at: usize, bit: u8, delayed: [u8; 4], output: &mut [u8])
+    fn outputs(at: usize, bit: u8, delayed: &[u8; 4], output: &mut [u8])
         requires { at + length generators ≤ length output.old }
-        ensures { output.new ≡ sets output.old at (taps generators bit delayed) };
+        ensures { output.new ≡ sets output.old at (taps generators bit delayed.now) };
 
     ghost laws: { CodeLaws RATE generators };
 }
@@ -55,8 +55,8 @@ impl Code for ControlThird {
 
     ghost RATE = { 3 };
 
-    fn outputs(at: usize, bit: u8, delayed: [u8; 4], output: &mut [u8]) {
-        let [newest, newer, older, oldest] = delayed;
+    fn outputs(at: usize, bit: u8, delayed: &[u8; 4], output: &mut [u8]) {
+        let [newest, newer, older, oldest] = *delayed;
         output[at] = bit ^ newest ^ oldest;
         output[at + 1] = bit ^ newer ^ older ^ oldest;
         output[at + 2] = bit ^ newest ^ newer ^ oldest;
@@ -72,8 +72,8 @@ impl Code for Control {
 
     ghost RATE = { 4 };
 
-    fn outputs(at: usize, bit: u8, delayed: [u8; 4], output: &mut [u8]) {
-        let [newest, _, older, oldest] = delayed;
+    fn outputs(at: usize, bit: u8, delayed: &[u8; 4], output: &mut [u8]) {
+        let [newest, _, older, oldest] = *delayed;
         ControlThird::outputs(at, bit, delayed, output);
         output[at + 3] = bit ^ newest ^ older ^ oldest;
     }
@@ -88,8 +88,8 @@ impl Code for Speech {
 
     ghost RATE = { 3 };
 
-    fn outputs(at: usize, bit: u8, delayed: [u8; 4], output: &mut [u8]) {
-        let [newest, newer, older, oldest] = delayed;
+    fn outputs(at: usize, bit: u8, delayed: &[u8; 4], output: &mut [u8]) {
+        let [newest, newer, older, oldest] = *delayed;
         output[at] = bit ^ newest ^ newer ^ older ^ oldest;
         output[at + 1] = bit ^ newest ^ older ^ oldest;
         output[at + 2] = bit ^ newer ^ oldest;
@@ -160,7 +160,7 @@ fn encode_on<C: Code>(input: &[u8], output: &mut [u8])
         C::outputs(
             C::RATE * i,
             input[i],
-            [input[i - 1], input[i - 2], input[i - 3], input[i - 4]],
+            &[input[i - 1], input[i - 2], input[i - 3], input[i - 4]],
             output,
         );
     }
@@ -206,7 +206,7 @@ impl<C: Code> Encoder<C> {
     {
         let mut s = self;
         for (i, bit) in input.iter().enumerate() {
-            C::outputs(C::RATE * i, *bit, s.delayed, output);
+            C::outputs(C::RATE * i, *bit, &s.delayed, output);
             s = s.after(*bit);
         }
         s
