@@ -14,17 +14,20 @@ use Rattle.records.specs.declared.Step.{Step}
 use Rattle.records.specs.declared.Item.TheVariants.{Whole, Unknown, Cut, End}
 
 -- ---- kinds
-pub symbols_none : (kind : ℕ) → 7 < kind → 0 ≡ symbols_of kind
+-- any other kind is not known
+pub symbols_none :
+    (kind : ℕ) → (kind ≡ 1 → ⊥) → (kind ≡ 2 → ⊥) → (kind ≡ 3 → ⊥) → (kind ≡ 4 → ⊥) → (kind ≡ 5 → ⊥) → (kind ≡ 6 → ⊥) → (kind ≡ 7 → ⊥)
+    → symbols_of kind ≡ 0
 unfolding symbols_of
-symbols_none zero h = absurd (omega arith)
-symbols_none (suc zero) h = absurd (omega arith)
-symbols_none (suc (suc zero)) h = absurd (omega arith)
-symbols_none (suc (suc (suc zero))) h = absurd (omega arith)
-symbols_none (suc (suc (suc (suc zero)))) h = absurd (omega arith)
-symbols_none (suc (suc (suc (suc (suc zero))))) h = absurd (omega arith)
-symbols_none (suc (suc (suc (suc (suc (suc zero)))))) h = absurd (omega arith)
-symbols_none (suc (suc (suc (suc (suc (suc (suc zero))))))) h = absurd (omega arith)
-symbols_none (suc (suc (suc (suc (suc (suc (suc (suc kind)))))))) h = refl
+symbols_none zero a b c d e f g = refl
+symbols_none (suc zero) a b c d e f g = absurd (a refl)
+symbols_none (suc (suc zero)) a b c d e f g = absurd (b refl)
+symbols_none (suc (suc (suc zero))) a b c d e f g = absurd (c refl)
+symbols_none (suc (suc (suc (suc zero)))) a b c d e f g = absurd (d refl)
+symbols_none (suc (suc (suc (suc (suc zero))))) a b c d e f g = absurd (e refl)
+symbols_none (suc (suc (suc (suc (suc (suc zero)))))) a b c d e f g = absurd (f refl)
+symbols_none (suc (suc (suc (suc (suc (suc (suc zero))))))) a b c d e f g = absurd (g refl)
+symbols_none (suc (suc (suc (suc (suc (suc (suc (suc kind)))))))) a b c d e f g = refl
 
 -- a record has at most 432 symbols
 pub symbols_most : (kind : ℕ) → symbols_of kind ≤ 432

@@ -3,14 +3,12 @@
 // A caller gets what stands at a place of a recording, and a reader that hands out one record at a time.
 #![tactic(auto)]
 
-ghost use Rattle.std.specs.Prelude.{◌≡◌};
+ghost use Rattle.std.specs.Prelude.{◌≡◌, ◌<◌, MatchOption};
 ghost use Rattle.records.specs.Kinds.{symbols_of};
 ghost use Rattle.records.specs.Recording.{step_at};
 
 // The bytes of a scrambling start.
 pub const START_BYTES: usize = 4;
-
-const SYMBOLS: [usize; 8] = [0, 120, 168, 216, 432, 30, 432, 216];
 
 // What stands at a place: a whole record, with its kind and the place of its kind byte; a kind that
 // is not known; a record whose body is cut by the end; or the end.
@@ -29,15 +27,21 @@ pub struct Step {
     pub at: usize,
 }
 
-// How many symbols a record of the kind has; 0 for a kind that is not known.
-pub fn symbols(kind: u8) -> usize
-    ensures { result ≡ symbols_of kind }
+// How many symbols a record of the kind has, where the kind is known.
+#[tactic(auto, using(crate::proofs::Laws::symbols_none), unfolding(crate::specs::Kinds::symbols_of))]
+pub fn symbols(kind: u8) -> Option<usize>
+    ensures { MatchOption result (symbols_of kind ≡ 0) (λ count. (count ≡ symbols_of kind) × (0 < count)) }
 {
-    if 7 < kind {
-        return 0;
+    match kind {
+        1 => Some(120),
+        2 => Some(168),
+        3 => Some(216),
+        4 => Some(432),
+        5 => Some(30),
+        6 => Some(432),
+        7 => Some(216),
+        _ => None,
     }
-    let counts = SYMBOLS;
-    counts[kind as usize]
 }
 
 // What stands at a place of a recording, and the next place.
@@ -47,30 +51,26 @@ pub fn step_at(s: &[u8], at: usize) -> Step
     if s.len() <= at {
         return Step {
             item: Item::End,
-            at: at,
+            at,
         };
     }
     let kind = s[at];
-    let count = symbols(kind);
-    if count == 0 {
+    let Some(count) = symbols(kind) else {
         return Step {
             item: Item::Unknown(kind),
-            at: at,
+            at,
         };
-    }
+    };
     let body = START_BYTES + count;
     if body < s.len() - at {
         Step {
-            item: Item::Whole {
-                kind: kind,
-                place: at,
-            },
+            item: Item::Whole { kind, place: at },
             at: at + 1 + body,
         }
     } else {
         Step {
             item: Item::Cut(kind),
-            at: at,
+            at,
         }
     }
 }
@@ -83,15 +83,15 @@ pub struct Reader<'a> {
 }
 
 // A reader that stands at a place of a recording.
-pub fn new<'a>(src: &'a [u8], at: usize) -> Reader<'a>
+pub fn new(src: &[u8], at: usize) -> Reader<'_>
     ensures { (result.src ≡ src.entry) × (result.at ≡ at) }
 {
-    Reader { src: src, at: at }
+    Reader { src, at }
 }
 
-impl<'a> Reader<'a> {
+impl Reader<'_> {
     // Hands out what stands at the reader's place, and moves past a whole record.
-    pub fn next<'s>(&'s mut self) -> Item
+    pub fn next(&mut self) -> Item
         ensures { (result ≡ (step_at self.old.src.now self.old.at).item)
             × (self.new.src ≡ self.old.src)
             × (self.new.at ≡ (step_at self.old.src.now self.old.at).at) }
@@ -108,8 +108,5 @@ pub fn take(s: &[u8], at: usize) -> Step
 {
     let mut r = new(s, at);
     let item = r.next();
-    Step {
-        item: item,
-        at: r.at,
-    }
+    Step { item, at: r.at }
 }
