@@ -89,9 +89,9 @@ fn decode(kind: u8, start: u32, air: &[u8]) -> Result<Answer, Refusal>
 pub fn answer_to(kind: u8, body: &[u8]) -> Result<Answer, Refusal>
     ensures { result ≡ answer_of kind body.now }
 {
-    if records::symbols(kind) == 0 {
+    let Some(_) = records::symbols(kind) else {
         return Err(Refusal::Kind);
-    }
+    };
     if body.len() < START_BYTES {
         return Err(Refusal::Short);
     }

@@ -1,21 +1,16 @@
 -- Laws of numbers as text.
 -- Assumes nothing.
-use mathlib.Core.Path.{◌≡◌, refl, sym, ap, ap₂, subst, ◌∙◌}
+use mathlib.Core.Path.{◌≡◌, refl, sym, ap, ◌∙◌}
 use mathlib.Core.Bool.{Bool, true, false}
-use mathlib.Core.List.{List, [], ◌∷◌, ◌++◌}
-use Prim.Native.Nat.{ℕ, zero, suc, ◌+◌, ◌-◌, ◌^◌, ◌/◌, ◌%◌, ◌≤◌, ◌<◌}
+use mathlib.Core.List.{List, [], ◌∷◌, ◌++◌, append_assoc}
+use Prim.Native.Nat.{ℕ, zero, suc, ◌+◌, ◌^◌, ◌/◌, ◌%◌, ◌≤◌, ◌<◌}
 use native.Mathlib.Omega.{arith}
 use native.Mathlib.Nat.{pow-suc}
 use borrow.Author.Tests.{ltb-true, ltb-false, lt-ltb, le-ltb}
 use lib.Dec.{ltb}
 use lib.ListN.{length, length-append}
-use Rattle.rm3014.specs.declared.Verdict.{Verdict}
-use Rattle.answers.specs.declared.Answer.{Answer}
-use Rattle.answers.specs.declared.Answer.TheVariants.{Aach}
-use Rattle.lines.specs.Lines.{counted, judged, line, answer_text}
+use Rattle.lines.specs.Lines.{counted, judged, line}
 use Rattle.lines.specs.private.Widths.{SAID, heading}
-use Rattle.lines.specs.private.Placing.{Put}
-use Rattle.lines.proofs.Placing.{put_none, put_then}
 use Rattle.lines.specs.Text.{sign, hex, decimal_within, decimal}
 
 pub sign_low : (d : ℕ) → d < 10 → 48 + d ≡ sign d
@@ -75,31 +70,8 @@ decimal_length (suc k) n h = go (decimal_length k (n / 10)) (ltb n 10) refl
           ih (omega (arith, pow-suc 10 (suc k))),
         )
 
--- ---- digits written one after the other
-pub decimal_low_put : {n x at next : ℕ} {old new : List ℕ} → n < 10 → x ≡ sign (n % 10) → Put (x ∷ []) at old new next → Put (decimal n) at old new next
-decimal_low_put {n} {x} {at} {next} {old} {new} h e p =
-    subst (λ (text : List ℕ). Put text at old new next) (ap (λ (y : ℕ). y ∷ []) e ∙ sym (decimal_low n h)) p
-
-pub decimal_high_put :
-    {n x at m next : ℕ} {old mid new : List ℕ} → 10 ≤ n → at ≤ length old → Put (decimal (n / 10)) at old mid m → x ≡ sign (n % 10)
-    → Put (x ∷ []) m mid new next → Put (decimal n) at old new next
-decimal_high_put {n} {x} {at} {m} {next} {old} {mid} {new} h l p e q =
-    subst (λ (text : List ℕ). Put text at old new next)
-    (ap (λ (y : ℕ). decimal (n / 10) ++ (y ∷ [])) e ∙ sym (decimal_high n h)) (put_then l p q)
-
 pub decimal_high_length : (n : ℕ) → 10 ≤ n → length (decimal n) ≡ length (decimal (n / 10)) + 1
 decimal_high_length n h = ap length (decimal_high n h) ∙ length-append (decimal (n / 10)) (sign (n % 10) ∷ [])
-
-pub hex_none_put : (k n : ℕ) {at : ℕ} {old : List ℕ} → k ≡ 0 → Put (hex k n) at old old at
-hex_none_put k n {at} {old} z = subst (λ (j : ℕ). Put (hex j n) at old old at) (sym z) (put_none at old)
-
-pub hex_more_put :
-    (k n : ℕ) {x at m next : ℕ} {old mid new : List ℕ} → (k ≡ 0 → ⊥) → at ≤ length old → Put (hex (k - 1) (n / 16)) at old mid m
-    → x ≡ sign (n % 16) → Put (x ∷ []) m mid new next → Put (hex k n) at old new next
-hex_more_put zero n z l p e q = absurd (z refl)
-hex_more_put (suc k) n {x} {at} {m} {next} {old} {mid} {new} z l p e q =
-    let j : suc k - 1 ≡ k = omega arith in
-    subst (λ (text : List ℕ). Put text at old new next) (ap₂ (λ (i y : ℕ). hex i (n / 16) ++ (y ∷ [])) j e) (put_then l p q)
 
 -- ---- how long the texts are
 pub counted_length : (word : List ℕ) (n : ℕ) → length (counted word n) ≡ length word + 1 + length (decimal n)
@@ -132,14 +104,8 @@ pub judged_most : (word : List ℕ) (place contents : ℕ) → length word ≤ 7
 judged_most word place contents h k =
     omega (arith, judged_length word place contents, counted_length word place, decimal_most place k)
 
--- ---- what is said of a record, by its case
-pub verdict_put :
-    {v w : Verdict} {at next : ℕ} {old new : List ℕ} → v ≡ w → Put (answer_text (Aach w)) at old new next → length (answer_text (Aach w)) ≤ SAID
-    → Put (answer_text (Aach v)) at old new next × (next ≤ at + SAID)
-verdict_put {v} {w} {at} {next} {old} {new} e p h =
-    (subst (λ (u : Verdict). Put (answer_text (Aach u)) at old new next) (sym e) p, omega (arith, p.ends))
+-- how long the texts of a line are
+pub ruleset sizes = (length-append, append_assoc, hex_length, counted_length, judged_length, heading_length, decimal_most, heading_most, counted_most, judged_most)
 
-pub answer_put :
-    {a b : Answer} {at next : ℕ} {old new : List ℕ} → a ≡ b → Put (answer_text b) at old new next → next ≤ at + SAID
-    → Put (answer_text a) at old new next × (next ≤ at + SAID)
-answer_put {a} {b} {at} {next} {old} {new} e p h = (subst (λ (u : Answer). Put (answer_text u) at old new next) (sym e) p, h)
+-- the digits of a number
+pub ruleset digits = (length-append, append_assoc, decimal_low, decimal_high, decimal_high_length)

@@ -1,25 +1,25 @@
 -- Laws of texts written into a target one after the other.
 -- Assumes nothing.
-use mathlib.Core.Path.{◌≡◌, refl, sym, ap, ap₂, ◌∙◌}
-use mathlib.Core.List.{List, [], ◌∷◌, ◌++◌, append_assoc}
-use Prim.Native.Nat.{ℕ, ◌+◌, ◌≤◌, ◌<◌}
-use native.Mathlib.Numerals.{add-one}
+use mathlib.Core.Path.{◌≡◌, sym, ap, ap₂, subst, ◌∙◌}
+use mathlib.Core.List.{List, ◌++◌, append_assoc}
+use Prim.Native.Nat.{ℕ, ◌+◌, ◌-◌, ◌≤◌}
 use native.Mathlib.Omega.{arith}
-use lib.ListN.{length, take, drop, set, take-append-drop, length-append}
-use lib.Seq.{take-length, take_at, drop_at, drop-drop, length-take-le, set_split, paste}
+use borrow.Rule.Slice.PartMut.{put_mid, Post-is}
+use lib.ListN.{length, take, drop, length-append}
+use lib.Seq.{take_at, drop_at, drop-drop, length-take-le}
 use Rattle.lines.specs.private.Placing.{placed, Put}
 
--- nothing written
-pub put_none : (at : ℕ) (old : List ℕ) → Put [] at old old at
-unfolding placed
-put_none at old =
-    let e : at + 0 ≡ at = omega arith in
-    record { is = sym (ap (λ (k : ℕ). take at old ++ drop k old) e ∙ take-append-drop at old); ends = omega arith }
+-- a text that is the same
+pub put_same : {a b old new : List ℕ} {at next : ℕ} → a ≡ b → Put a at old new next → Put b at old new next
+put_same {a} {b} {old} {new} {at} {next} e p = subst (λ (text : List ℕ). Put text at old new next) e p
 
--- one byte
-pub put_one : (x at : ℕ) (old : List ℕ) → at < length old → Put (x ∷ []) at old (set old at x) (at + 1)
+-- the part from the place on was overwritten
+pub put_part : {text part old : List ℕ} {at n : ℕ} → part ≡ text → n ≡ length text → Put text at old (put_mid at (at + n - at) old part) (at + n)
 unfolding placed
-put_one x at old h = record { is = set_split old at x h ∙ ap (λ (k : ℕ). take at old ++ (x ∷ drop k old)) (sym (add-one at)); ends = refl }
+put_part {text} {part} {old} {at} {n} p e = record {
+  is = ap₂ (λ (x y : List ℕ). take at old ++ (x ++ y)) p (Post-is at (at + n) old (omega arith) ∙ ap (λ (k : ℕ). drop (at + k) old) e);
+  ends = ap (λ (k : ℕ). at + k) e;
+}
 
 -- the front of what was written, and what follows it
 front : (at : ℕ) (text old : List ℕ) → at ≤ length old → take (at + length text) (placed at text old) ≡ take at old ++ text
@@ -52,17 +52,6 @@ pub put_then :
 put_then {a} {b} {at} {m} {r} {old} {mid} {new} h p q = record {
   is = q.is ∙ ap₂ (λ (k : ℕ) (l : List ℕ). placed k b l) p.ends p.is ∙ placed_then at a b old h;
   ends = omega (arith, q.ends, p.ends, length-append a b);
-}
-
--- ---- a loop that copies entry i
-pub copied : (at : ℕ) (text old : List ℕ) {i : ℕ} {new : List ℕ} → i ≡ length text → new ≡ paste old at text i → Put text at old new (at + i)
-unfolding placed
-copied at text old {i} {new} e p = record {
-  is =
-      p ∙ ap (λ (k : ℕ). take at old ++ take k text ++ drop (at + k) old) e
-      ∙ ap (λ (l : List ℕ). take at old ++ l ++ drop (at + length text) old) (take-length text)
-      ∙ append_assoc (take at old) text (drop (at + length text) old);
-  ends = ap (λ (k : ℕ). at + k) e;
 }
 
 -- ---- what a text written at a place leaves before and in it

@@ -1,15 +1,44 @@
-// Shared among our own crates: these ask that there be room for the text. Each writes a text from a
-// place on and answers the place after it.
-ghost use Rattle.std.specs.Prelude.{[], ◌∷◌, ◌+◌, ◌≤◌, ◌<◌, ◌≡◌, length};
-ghost use Rattle.lines.specs.private.Placing.{Put};
-ghost use Rattle.lines.specs.private.Widths.{SAID, heading};
-ghost use Rattle.lines.specs.Text.{ascii, sign, decimal, hex};
-ghost use Rattle.lines.specs.Lines.{LINE, counted, judged, answer_text, line, end_line};
-ghost use Rattle.answers.specs.declared.Answer.TheVariants.{Aach};
+// Shared among our own crates: writing a line asks that there be room for it.
+#![tactic(auto, using(crate::proofs::Laws::sizes), unfolding(crate::specs::Lines::counted, crate::specs::Lines::judged, crate::specs::private::Widths::heading, crate::specs::Lines::line, crate::specs::Lines::end_line))]
 
+ghost use Rattle.std.specs.Prelude.{[], ◌∷◌, ◌++◌, ◌+◌, ◌≤◌, ◌<◌, ◌≡◌, length};
+ghost use Rattle.lines.specs.private.Placing.{Put};
+ghost use Rattle.lines.specs.private.Widths.{SAID, heading, said_text};
+ghost use Rattle.lines.specs.Text.{sign, decimal, hex};
+ghost use Rattle.lines.specs.Lines.{counted, judged, answer_text, line, end_line};
+
+use crate::LINE;
 use answers::Answer;
 use rm3014::Verdict;
+use std::marker::Model;
 
+// What is said of a record: what its chain answered, that its kind is not known, or that its body is
+// cut.
+#[derive(Clone, Copy)]
+pub enum Said {
+    Answered(Answer),
+    Unknown,
+    Short,
+}
+
+// A line as far as it is written, with room for the longest.
+#[derive(Drop)]
+pub struct Line {
+    text: [u8; LINE],
+    length: usize,
+}
+
+impl Model for Line {
+    ghost use Rattle.std.specs.Prelude.{List, ℕ, ◌≤◌, take};
+
+    ghost Value = { List ℕ };
+
+    ghost view = { λ l. take l.length l.text };
+
+    ghost invariant = { λ l. l.length ≤ 80 };
+}
+
+#[tactic(auto, using(crate::proofs::Laws::sign_low, crate::proofs::Laws::sign_high))]
 fn sign_of(digit: u64) -> u8
     requires { digit < 16 }
     ensures { result ≡ sign digit }
@@ -21,142 +50,151 @@ fn sign_of(digit: u64) -> u8
     }
 }
 
-fn put_byte(byte: u8, out: &mut [u8], at: usize) -> usize
-    requires { at < length out.old }
-    ensures { Put (byte ∷ []) at out.old out.new result }
-{
-    out[at] = byte;
-    at + 1
-}
-
-fn put_text(text: &[u8], out: &mut [u8], at: usize) -> usize
-    requires { at + length text.now ≤ length out.old }
-    ensures { Put text.now at out.old out.new result }
-{
-    let mut i: usize = 0;
-    while i < text.len() {
-        out[at + i] = text[i];
-        i += 1;
-    }
-    at + i
-}
-
-fn put_decimal(n: u64, out: &mut [u8], at: usize) -> usize
-    requires { at + length (decimal n) ≤ length out.old }
-    ensures { Put (decimal n) at out.old out.new result }
-{
-    if n < 10 {
-        return put_byte(sign_of(n % 10), out, at);
-    }
-    let next = put_decimal(n / 10, out, at);
-    put_byte(sign_of(n % 10), out, next)
-}
-
-// The last `digits` hexadecimal digits of n.
-fn put_hex(digits: usize, n: u64, out: &mut [u8], at: usize) -> usize
-    requires { at + digits ≤ length out.old }
-    ensures { Put (hex digits n) at out.old out.new result }
-{
-    if digits == 0 {
-        return at;
-    }
-    let next = put_hex(digits - 1, n / 16, out, at);
-    put_byte(sign_of(n % 16), out, next)
-}
-
-fn put_counted(word: &[u8], n: u64, out: &mut [u8], at: usize) -> usize
-    requires { at + length (counted word.now n) ≤ length out.old }
-    ensures { Put (counted word.now n) at out.old out.new result }
-{
-    let space = put_text(word, out, at);
-    let next = put_byte(b' ', out, space);
-    put_decimal(n, out, next)
-}
-
-fn put_judged(word: &[u8], place: u64, contents: u64, out: &mut [u8], at: usize) -> usize
-    requires { at + length (judged word.now place contents) ≤ length out.old }
-    ensures { Put (judged word.now place contents) at out.old out.new result }
-{
-    let space = put_counted(word, place, out, at);
-    let next = put_byte(b' ', out, space);
-    put_hex(4, contents, out, next)
-}
-
-fn put_verdict(verdict: Verdict, out: &mut [u8], at: usize) -> usize
-    requires { at + SAID ≤ length out.old }
-    ensures { Put (answer_text (Aach verdict)) at out.old out.new result × (result ≤ at + SAID) }
-{
-    match verdict {
-        Verdict::Clean(contents) => put_judged(b"clean", 0, contents as u64, out, at),
-        Verdict::Mended(place, contents) => {
-            put_judged(b"mended", place as u64, contents as u64, out, at)
+impl Line {
+    fn new() -> Line
+        ensures { result ≡ [] }
+    {
+        Line {
+            text: [0; LINE],
+            length: 0,
         }
-        Verdict::Beyond(contents) => put_judged(b"beyond", 0, contents as u64, out, at),
     }
-}
 
-fn put_answer(answer: Answer, out: &mut [u8], at: usize) -> usize
-    requires { at + SAID ≤ length out.old }
-    ensures { Put (answer_text answer) at out.old out.new result × (result ≤ at + SAID) }
-{
-    match answer {
-        Answer::Good(counts) => put_counted(b"good", counts.disagreements as u64, out, at),
-        Answer::Bad(counts) => put_counted(b"bad", counts.disagreements as u64, out, at),
-        Answer::Aach(verdict) => put_verdict(verdict, out, at),
-        Answer::Refused(number) => put_counted(b"refused", number as u64, out, at),
+    fn push(&mut self, byte: u8)
+        requires { length self.old < LINE }
+        ensures { self.new ≡ self.old ++ byte ∷ [] }
+    {
+        self.text[self.length] = byte;
+        self.length += 1;
     }
-}
 
-fn put_heading(number: u64, kind: u8, out: &mut [u8], at: usize) -> usize
-    requires { at + length (heading number kind) ≤ length out.old }
-    ensures { Put (heading number kind) at out.old out.new result }
-{
-    let space = put_decimal(number, out, at);
-    let next = put_byte(b' ', out, space);
-    let last = put_hex(2, kind as u64, out, next);
-    put_byte(b' ', out, last)
-}
+    fn push_text(&mut self, text: &[u8])
+        requires { length self.old + length text.now ≤ LINE }
+        ensures { self.new ≡ self.old ++ text.now }
+    {
+        for byte in text {
+            self.push(*byte);
+        }
+    }
 
-// The line of a record.
-pub fn put_record(number: u64, kind: u8, answer: Answer, out: &mut [u8], at: usize) -> usize
-    requires { at + LINE ≤ length out.old }
-    ensures { Put (line number kind (answer_text answer)) at out.old out.new result × (result ≤ at + LINE) }
-{
-    let said = put_heading(number, kind, out, at);
-    let next = put_answer(answer, out, said);
-    put_byte(b'\n', out, next)
-}
+    // Stays: digits by hand. `write!` says what it wrote only where it answers Ok, and `record` and
+    // `end` have no other answer.
+    #[tactic(auto, using(crate::proofs::Laws::digits))]
+    fn push_decimal(&mut self, n: u64)
+        requires { length self.old + length (decimal n) ≤ LINE }
+        ensures { self.new ≡ self.old ++ decimal n }
+    {
+        if n < 10 {
+            return self.push(sign_of(n % 10));
+        }
+        self.push_decimal(n / 10);
+        self.push(sign_of(n % 10));
+    }
 
-fn put_line(number: u64, kind: u8, word: &[u8], out: &mut [u8], at: usize) -> usize
-    requires { at + length (line number kind word.now) ≤ length out.old }
-    ensures { Put (line number kind word.now) at out.old out.new result }
-{
-    let said = put_heading(number, kind, out, at);
-    let next = put_text(word, out, said);
-    put_byte(b'\n', out, next)
-}
+    // The last `digits` hexadecimal digits of n.
+    fn push_hex(&mut self, digits: usize, n: u64)
+        requires { length self.old + digits ≤ LINE }
+        ensures { self.new ≡ self.old ++ hex digits n }
+    {
+        if digits == 0 {
+            return;
+        }
+        self.push_hex(digits - 1, n / 16);
+        self.push(sign_of(n % 16));
+    }
 
-// The line of a kind that is not known.
-pub fn put_unknown(number: u64, kind: u8, out: &mut [u8], at: usize) -> usize
-    requires { at + LINE ≤ length out.old }
-    ensures { Put (line number kind (ascii "unknown")) at out.old out.new result × (result ≤ at + LINE) }
-{
-    put_line(number, kind, b"unknown", out, at)
-}
+    fn push_counted(&mut self, word: &[u8], n: u64)
+        requires { length self.old + length (counted word.now n) ≤ LINE }
+        ensures { self.new ≡ self.old ++ counted word.now n }
+    {
+        self.push_text(word);
+        self.push(b' ');
+        self.push_decimal(n);
+    }
 
-// The line of a record whose body is cut.
-pub fn put_short(number: u64, kind: u8, out: &mut [u8], at: usize) -> usize
-    requires { at + LINE ≤ length out.old }
-    ensures { Put (line number kind (ascii "short")) at out.old out.new result × (result ≤ at + LINE) }
-{
-    put_line(number, kind, b"short", out, at)
-}
+    fn push_judged(&mut self, word: &[u8], place: u64, contents: u64)
+        requires { length self.old + length (judged word.now place contents) ≤ LINE }
+        ensures { self.new ≡ self.old ++ judged word.now place contents }
+    {
+        self.push_counted(word, place);
+        self.push(b' ');
+        self.push_hex(4, contents);
+    }
 
-// The last line.
-pub fn put_end(count: u64, out: &mut [u8], at: usize) -> usize
-    requires { at + LINE ≤ length out.old }
-    ensures { Put (end_line count) at out.old out.new result × (result ≤ at + LINE) }
-{
-    let next = put_counted(b"end", count, out, at);
-    put_byte(b'\n', out, next)
+    fn push_verdict(&mut self, verdict: Verdict)
+        requires { length self.old + SAID ≤ LINE }
+        ensures { self.new ≡ self.old ++ answer_text (Answer.Aach verdict) }
+    {
+        match verdict {
+            Verdict::Clean(contents) => self.push_judged(b"clean", 0, contents as u64),
+            Verdict::Mended(place, contents) => {
+                self.push_judged(b"mended", place as u64, contents as u64)
+            }
+            Verdict::Beyond(contents) => self.push_judged(b"beyond", 0, contents as u64),
+        }
+    }
+
+    fn push_answer(&mut self, answer: Answer)
+        requires { length self.old + SAID ≤ LINE }
+        ensures { self.new ≡ self.old ++ answer_text answer }
+    {
+        match answer {
+            Answer::Good(counts) => self.push_counted(b"good", counts.disagreements as u64),
+            Answer::Bad(counts) => self.push_counted(b"bad", counts.disagreements as u64),
+            Answer::Aach(verdict) => self.push_verdict(verdict),
+            Answer::Refused(number) => self.push_counted(b"refused", number as u64),
+        }
+    }
+
+    fn push_said(&mut self, said: Said)
+        requires { length self.old + SAID ≤ LINE }
+        ensures { self.new ≡ self.old ++ said_text said }
+    {
+        match said {
+            Said::Answered(answer) => self.push_answer(answer),
+            Said::Unknown => self.push_text(b"unknown"),
+            Said::Short => self.push_text(b"short"),
+        }
+    }
+
+    fn push_heading(&mut self, number: u64, kind: u8)
+        requires { length self.old + length (heading number kind) ≤ LINE }
+        ensures { self.new ≡ self.old ++ heading number kind }
+    {
+        self.push_decimal(number);
+        self.push(b' ');
+        self.push_hex(2, kind as u64);
+        self.push(b' ');
+    }
+
+    // The line of a record.
+    pub fn record(number: u64, kind: u8, said: Said) -> Line
+        ensures { result ≡ line number kind (said_text said) }
+    {
+        let mut line = Line::new();
+        line.push_heading(number, kind);
+        line.push_said(said);
+        line.push(b'\n');
+        line
+    }
+
+    // The last line.
+    pub fn end(count: u64) -> Line
+        ensures { result ≡ end_line count }
+    {
+        let mut line = Line::new();
+        line.push_counted(b"end", count);
+        line.push(b'\n');
+        line
+    }
+
+    // Writes the line into a target from a place on, and answers the place behind it.
+    pub fn put(&self, out: &mut [u8], at: usize) -> usize
+        requires { at + LINE ≤ length out.old }
+        ensures { Put self.now at out.old out.new result × (result ≤ at + LINE) }
+    {
+        let end = at + self.length;
+        out[at..end].copy_from_slice(&self.text[..self.length]);
+        end
+    }
 }

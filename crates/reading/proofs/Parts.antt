@@ -2,9 +2,9 @@
 -- Assumes nothing.
 use mathlib.Core.Bool.{Bool, true, false}
 use mathlib.Core.Path.{◌≡◌, refl, sym, ap, ◌∙◌}
-use mathlib.Core.Logic.{inl, inr}
+use mathlib.Core.Logic.{◌⊎◌, inl, inr}
 use mathlib.Core.List.{List, [], ◌++◌, append_assoc}
-use Prim.Native.Nat.{ℕ, ◌≤◌, ◌<◌}
+use Prim.Native.Nat.{ℕ, ◌-◌, ◌≤◌, ◌<◌}
 use native.Mathlib.Omega.{arith}
 use borrow.Author.Tests.{eq-eqb, ne_eqb}
 use lib.Dec.{eqb}
@@ -15,7 +15,7 @@ use Rattle.lines.proofs.Placing.{put_front}
 use Rattle.streaming.specs.Runner.{State, holding, start, feed, closing}
 use Rattle.streaming.specs.Limits.{LARGEST}
 use Rattle.streaming.specs.private.Advancing.{Roomy, Advances}
-use Rattle.streaming.specs.declared.inner.Advanced.{Advanced}
+use Rattle.streaming.specs.declared.inner.Stepped.{Stepped}
 use Rattle.streaming.proofs.Feeding.{feed_append, over, over_stays, lines_by}
 use Rattle.streaming.proofs.Waiting.{waits_held}
 use Rattle.reading.specs.declared.Next.{Next}
@@ -54,31 +54,41 @@ module _ (rest : List ℕ) (count : ℕ) {written : ℕ} {old out : List ℕ} (p
   }
 
 -- ---- bytes have come
-module _ (bytes : List ℕ) (count : ℕ) (old : List ℕ) {p : Advanced} {buf out : List ℕ} (a : Advances bytes count old p buf out) where
+module _ (bytes : List ℕ) (count : ℕ) (old : List ℕ) {p : Stepped} {buf out : List ℕ} (a : Advances bytes count old p buf out) where
+  -- what was not taken is kept
+  abbrev kept : ℕ
+  kept = length bytes - p.taken
+
   -- the definition after the input, from what was written and counted, by whether the reading has stopped
   came :
       (input text : List ℕ) {s : Bool} → p.stopped ≡ s → feed start input ≡ feed (holding [] text count) bytes
-      → feed start input ≡ feed (record { held = []; text = text ++ take p.written out; count = p.count; stopped = s }) (take p.kept buf)
+      → feed start input ≡ feed (record { held = []; text = text ++ take p.written out; count = p.count; stopped = s }) (take kept buf)
   came input text z e =
       e ∙ a.fed text
-      ∙ ap (λ (s : Bool). feed (record { held = []; text = text ++ take p.written out; count = p.count; stopped = s }) (take p.kept buf)) z
+      ∙ ap (λ (s : Bool). feed (record { held = []; text = text ++ take p.written out; count = p.count; stopped = s }) (take kept buf)) z
 
   pub brings_goes :
-      p.stopped ≡ false → Roomy bytes old p → p.written ≤ length out
-      → Brings bytes count (record { kept = p.kept; written = p.written; count = p.count; next = Goes }) buf out
-  brings_goes z m fits = record {
-    says = λ input text e. came input text z e ∙ waits_held (take p.kept buf) (text ++ take p.written out) p.count (a.waits z m);
+      {k : ℕ} → k ≡ kept → p.stopped ≡ false → Roomy bytes old p → p.written ≤ length out
+      → Brings bytes count (record { kept = k; written = p.written; count = p.count; next = Goes }) buf out
+  brings_goes {k} l z m fits = record {
+    says = λ input text e.
+        came input text z e ∙ waits_held (take kept buf) (text ++ take p.written out) p.count (a.waits z m)
+        ∙ ap (λ (n : ℕ). holding (take n buf) (text ++ take p.written out) p.count) (sym l);
     how = inl refl;
     fits = fits;
-    less = λ g. (a.less z m, m.number);
-    moves = λ g. a.moves z;
+    less = λ g. (omega (arith, l, a.less z m, a.taken_in), m.number);
+    moves = λ g. moved (a.moves z);
   }
+    where
+      moved : (count < p.count) ⊎ ((p.count ≡ count) × (p.taken ≡ 0)) → (count < p.count) ⊎ ((p.count ≡ count) × (k ≡ length bytes))
+      moved (inl x) = inl x
+      moved (inr x) = inr (x.0, omega (arith, l, x.1))
 
   pub brings_full :
       p.stopped ≡ false → LARGEST ≤ p.count → p.written ≤ length out
       → Brings bytes count (record { kept = 0; written = p.written; count = p.count; next = Full }) buf out
   brings_full z m fits = record {
-    says = λ input text e. (m, take p.kept buf, came input text z e);
+    says = λ input text e. (m, take kept buf, came input text z e);
     how = inr (inr refl);
     fits = fits;
     less = λ g. let z : ◌≡◌ {A = ℕ} 0 1 = cc in absurd (omega arith);
@@ -103,7 +113,7 @@ module _ (bytes : List ℕ) (count : ℕ) (old : List ℕ) {p : Advanced} {buf o
           let front : List ℕ = take p.written out in
           let stays : feed start (input ++ later) ≡ over (text ++ front) p.count =
           feed_append start input later
-          ∙ ap (λ (s : State). feed s later) (came input text z e ∙ over_stays (text ++ front) p.count (take p.kept buf))
+          ∙ ap (λ (s : State). feed s later) (came input text z e ∙ over_stays (text ++ front) p.count (take kept buf))
           ∙ over_stays (text ++ front) p.count later in
           record {
             how = ap ending_of stays;

@@ -8,6 +8,7 @@ use Rattle.reading.specs.declared.Next.{Next}
 use Rattle.reading.specs.declared.Next.TheVariants.{Goes, Whole, Cut, Unknown, Unread, Unwritten, Full}
 use Rattle.reading.specs.declared.Got.{Got}
 use Rattle.reading.specs.declared.Turn.{Turn}
+use Rattle.reading.specs.Turns.{bytes_of, has_failed}
 
 -- ---- what a turn says of all the input so far, what it keeps of it, all the text so far, and the count
 -- the definition has taken in the input: it holds the rest, and has written the text and counted so many records
@@ -36,7 +37,7 @@ Says Full input rest text count = (LARGEST ≤ count) × (left : List ℕ) × (f
 -- ---- what a turn does
 -- the bytes that a read brought to the buffer, and none if it failed
 abbrev pub brought : Turn → Got → List ℕ → List ℕ
-brought held got buf = pick got.failed [] (take got.bytes (drop held.kept buf))
+brought held got buf = pick (has_failed got) [] (take (bytes_of got) (drop held.kept buf))
 
 -- another turn can follow: what is kept is less than a record, a number is left,
 -- and a record was counted or more is kept than before, so that turns come to an end
@@ -51,8 +52,8 @@ pub record Takes (held : Turn) (got : Got) (from : List ℕ) (r : Turn) (buf out
       (input text : List ℕ) → Stands input (take held.kept from) text held.count
       → Says r.next (input ++ brought held got from) (take r.kept buf) (text ++ take r.written out) r.count
   -- a read that failed, one that brought nothing, one that brought something
-  pub failed : got.failed ≡ true → r.next ≡ Unread
-  pub ended : got.failed ≡ false → got.bytes ≡ 0 → (r.next ≡ Whole) ⊎ (r.next ≡ Cut)
-  pub came : got.failed ≡ false → 0 < got.bytes → (r.next ≡ Goes) ⊎ ((r.next ≡ Unknown) ⊎ (r.next ≡ Full))
+  pub failed : has_failed got ≡ true → r.next ≡ Unread
+  pub ended : has_failed got ≡ false → bytes_of got ≡ 0 → (r.next ≡ Whole) ⊎ (r.next ≡ Cut)
+  pub came : has_failed got ≡ false → 0 < bytes_of got → (r.next ≡ Goes) ⊎ ((r.next ≡ Unknown) ⊎ (r.next ≡ Full))
   pub fits : r.written ≤ length out
   pub onward : r.next ≡ Goes → Onward held r

@@ -18,7 +18,7 @@ fn bring(buf: &mut [u8], fill: usize, count: u64, out: &mut [u8]) -> Turn
     if p.stopped {
         return Turn {
             kept: 0,
-            written: close(&buf[..0], p.count, out, p.written),
+            written: close(&[], p.count, out, p.written),
             count: p.count,
             next: Next::Unknown,
         };
@@ -32,7 +32,7 @@ fn bring(buf: &mut [u8], fill: usize, count: u64, out: &mut [u8]) -> Turn
         };
     }
     Turn {
-        kept: p.kept,
+        kept: fill - p.taken,
         written: p.written,
         count: p.count,
         next: Next::Goes,
@@ -45,18 +45,18 @@ fn finish(rest: &[u8], count: u64, out: &mut [u8]) -> Turn
     ensures { Finishes rest.now count result out.new }
 {
     let written = close(rest, count, out, 0);
-    if rest.len() == 0 {
+    if rest.is_empty() {
         return Turn {
             kept: 0,
-            written: written,
-            count: count,
+            written,
+            count,
             next: Next::Whole,
         };
     }
     Turn {
         kept: 0,
-        written: written,
-        count: count,
+        written,
+        count,
         next: Next::Cut,
     }
 }
@@ -66,17 +66,15 @@ pub fn take_in(buf: &mut [u8], held: Turn, got: Got, out: &mut [u8]) -> Turn
     requires { Fits held got buf.old out.old }
     ensures { Takes held got buf.old result buf.new out.new }
 {
-    let kept = held.kept;
-    if got.failed {
+    let Some(bytes) = got.bytes else {
         return Turn {
-            kept: kept,
             written: 0,
-            count: held.count,
             next: Next::Unread,
+            ..held
         };
+    };
+    if bytes == 0 {
+        return finish(&buf[..held.kept], held.count, out);
     }
-    if got.bytes == 0 {
-        return finish(&buf[..kept], held.count, out);
-    }
-    bring(buf, kept + got.bytes, held.count, out)
+    bring(buf, held.kept + bytes, held.count, out)
 }

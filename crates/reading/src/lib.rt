@@ -6,13 +6,16 @@
 
 pub mod inner;
 
-ghost use Rattle.std.specs.Prelude.{true, false, ◌≡◌};
+ghost use Rattle.std.specs.Prelude.{true, false, ◌≡◌, Some};
+ghost use Rattle.reading.specs.Words.{word_of};
 ghost use Rattle.reading.specs.declared.Next.TheVariants.{Goes};
-ghost use Rattle.reading.specs.Turns.{meant, first, wrote};
+ghost use Rattle.reading.specs.Turns.{of_read, meant, bytes_of, has_failed, first, wrote};
+
+use std::fmt;
 
 // Whether to go on, and why not: the input has ended behind a whole record, or inside one; a kind is
 // not known; the input could not be read; the lines could not be written; no number is left.
-#[derive(Clone, Copy)]
+#[derive(Clone, Copy, PartialEq, Eq)]
 pub enum Next {
     Goes,
     Whole,
@@ -23,47 +26,59 @@ pub enum Next {
     Full,
 }
 
-// What one read brought. No bytes and no failure is the end of the input.
+impl fmt::Display for Next {
+    ghost output = { λ next. Some (word_of next) };
+
+    fn fmt<W: fmt::Write>(&self, f: &mut fmt::Formatter<W>) -> fmt::Result {
+        let word = match self {
+            Next::Goes => "goes",
+            Next::Whole => "whole",
+            Next::Cut => "cut",
+            Next::Unknown => "unknown",
+            Next::Unread => "unread",
+            Next::Unwritten => "unwritten",
+            Next::Full => "full",
+        };
+        f.write_str(word)
+    }
+}
+
+// What one read brought: how many bytes, or None where it failed. No bytes are the end of the input.
 #[derive(Clone, Copy)]
 pub struct Got {
-    bytes: usize,
-    failed: bool,
+    bytes: Option<usize>,
 }
 
 impl Got {
-    // What a read answered that had room for so many bytes.
+    // What a read answered that had room for so many bytes; a negative number is a failure.
     pub fn answered(answer: isize, room: usize) -> Got
         ensures { result ≡ meant answer room }
     {
-        if answer < 0 {
-            return Got {
-                bytes: 0,
-                failed: true,
-            };
-        }
-        let bytes = answer as usize;
-        if bytes < room {
-            return Got {
-                bytes: bytes,
-                failed: false,
-            };
-        }
-        Got {
-            bytes: room,
-            failed: false,
+        Got::read(usize::try_from(answer).ok(), room)
+    }
+
+    // What a read brought that had room for so many bytes.
+    pub fn read(bytes: Option<usize>, room: usize) -> Got
+        ensures { result ≡ of_read bytes room }
+    {
+        match bytes {
+            Some(n) => Got {
+                bytes: Some(n.min(room)),
+            },
+            None => Got { bytes: None },
         }
     }
 
     pub fn bytes(self) -> usize
-        ensures { result ≡ self.bytes }
+        ensures { result ≡ bytes_of self }
     {
-        self.bytes
+        self.bytes.unwrap_or(0)
     }
 
     pub fn failed(self) -> bool
-        ensures { result ≡ self.failed }
+        ensures { result ≡ has_failed self }
     {
-        self.failed
+        self.bytes.is_none()
     }
 }
 
@@ -117,11 +132,7 @@ impl Turn {
     pub fn goes(self) -> bool
         ensures { (result ≡ true → self.next ≡ Goes) × (result ≡ false → self.next ≡ Goes → ⊥) }
     {
-        let next = self.next;
-        if let Next::Goes = next {
-            return true;
-        }
-        false
+        matches!(self.next, Next::Goes)
     }
 
     // The same turn once its lines are written, and the end where they could not be.
@@ -132,10 +143,8 @@ impl Turn {
             return self;
         }
         Turn {
-            kept: self.kept,
-            written: self.written,
-            count: self.count,
             next: Next::Unwritten,
+            ..self
         }
     }
 }

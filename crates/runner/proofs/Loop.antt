@@ -11,7 +11,7 @@ use Rattle.reading.specs.declared.Next.{Next}
 use Rattle.reading.specs.declared.Next.TheVariants.{Goes, Whole, Cut, Unknown, Unread, Unwritten, Full}
 use Rattle.reading.specs.declared.Got.{Got}
 use Rattle.reading.specs.declared.Turn.{Turn}
-use Rattle.reading.specs.Turns.{first, wrote}
+use Rattle.reading.specs.Turns.{first, wrote, bytes_of, has_failed}
 use Rattle.reading.specs.Reading.{brought, Says, Takes, Onward}
 use Rattle.reading.specs.Pieces.{Ran, begins, turns, loses}
 use Rattle.reading.proofs.Pieces.{any_pieces}
@@ -43,10 +43,10 @@ story_first given had buf e =
 -- a turn's lines are never said to be unwritten by the library itself; and it says that the input has ended only where a read brought nothing
 module _ {held : Turn} {got : Got} {from : List ℕ} {r : Turn} {buf out : List ℕ} (t : Takes held got from r buf out) where
   by_read :
-      (P : Next → Type 0) → P Unread → (got.failed ≡ false → got.bytes ≡ 0 → P Whole × P Cut) → P Goes × (P Unknown × P Full) → P r.next
-  by_read P unread ended came = go got.failed refl got.bytes refl
+      (P : Next → Type 0) → P Unread → (has_failed got ≡ false → bytes_of got ≡ 0 → P Whole × P Cut) → P Goes × (P Unknown × P Full) → P r.next
+  by_read P unread ended came = go (has_failed got) refl (bytes_of got) refl
     where
-      two : (got.failed ≡ false) → (got.bytes ≡ 0) → (r.next ≡ Whole) ⊎ (r.next ≡ Cut) → P r.next
+      two : (has_failed got ≡ false) → (bytes_of got ≡ 0) → (r.next ≡ Whole) ⊎ (r.next ≡ Cut) → P r.next
       two f n (inl e) = subst P (sym e) (ended f n).0
       two f n (inr e) = subst P (sym e) (ended f n).1
 
@@ -55,7 +55,7 @@ module _ {held : Turn} {got : Got} {from : List ℕ} {r : Turn} {buf out : List 
       three (inr (inl e)) = subst P (sym e) came.1.0
       three (inr (inr e)) = subst P (sym e) came.1.1
 
-      go : (failed : Bool) → got.failed ≡ failed → (bytes : ℕ) → got.bytes ≡ bytes → P r.next
+      go : (failed : Bool) → has_failed got ≡ failed → (bytes : ℕ) → bytes_of got ≡ bytes → P r.next
       go true f n m = subst P (sym (t.failed f)) unread
       go false f zero m = two f m (t.ended f m)
       go false f (suc n) m = three (t.came f (omega (arith, m)))
@@ -66,7 +66,7 @@ module _ {held : Turn} {got : Got} {from : List ℕ} {r : Turn} {buf out : List 
       (λ f n. (λ e. let z : ◌≡◌ {A = ℕ} 0 1 = cc in omega arith, λ e. let z : ◌≡◌ {A = ℕ} 0 1 = cc in omega arith))
       (λ e. let z : ◌≡◌ {A = ℕ} 0 1 = cc in omega arith, (λ e. let z : ◌≡◌ {A = ℕ} 0 1 = cc in omega arith, λ e. let z : ◌≡◌ {A = ℕ} 0 1 = cc in omega arith))
 
-  pub ends_at_end : {E : Type 0} → (got.failed ≡ false → got.bytes ≡ 0 → E) → (r.next ≡ Whole) ⊎ (r.next ≡ Cut) → E
+  pub ends_at_end : {E : Type 0} → (has_failed got ≡ false → bytes_of got ≡ 0 → E) → (r.next ≡ Whole) ⊎ (r.next ≡ Cut) → E
   ends_at_end {E} end =
       by_read (λ (n : Next). (n ≡ Whole) ⊎ (n ≡ Cut) → E) (λ x. apart x (λ e. cc) (λ e. cc))
       (λ f n. (λ x. end f n, λ x. end f n))

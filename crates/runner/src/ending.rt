@@ -12,32 +12,21 @@ use std::rt::Env;
 const NAME: usize = 4096;
 
 // The system's numbers for a name that is too long, and for one that is no text, which std cannot open.
+// Stay: no `ErrorKind` has the system's words for them, which standard error shows.
 const TOO_LONG: i32 = 36;
 
 const NO_TEXT: i32 = 84;
 
-// Nothing is said of a turn that goes on: that is no end.
-fn word_of(next: Next) -> io::Result<&'static [u8]> {
-    match next {
-        Next::Goes => Err(io::Error::from(ErrorKind::Other)),
-        Next::Whole => Ok(b"whole\n"),
-        Next::Cut => Ok(b"cut\n"),
-        Next::Unknown => Ok(b"unknown\n"),
-        Next::Unread => Ok(b"unread\n"),
-        Next::Unwritten => Ok(b"unwritten\n"),
-        Next::Full => Ok(b"full\n"),
-    }
-}
-
-// Writes the word to the file of that name.
+// Writes the word to the file of that name. Nothing is said of a turn that goes on: that is no end.
 fn put_file(rt: &HostRuntime, name: &[u8], next: Next) -> io::Result<()> {
-    match std::str::from_utf8(name) {
-        Ok(path) => {
-            let mut file = File::create(rt, path)?;
-            file.write_all(word_of(next)?)
-        }
-        Err(_) => Err(io::Error::from_raw_os_error(NO_TEXT)),
+    let Ok(path) = std::str::from_utf8(name) else {
+        return Err(io::Error::from_raw_os_error(NO_TEXT));
+    };
+    let mut file = File::create(rt, path)?;
+    if next == Next::Goes {
+        return Err(io::Error::from(ErrorKind::Other));
     }
+    writeln!(file, "{next}")
 }
 
 fn tell_file(rt: &HostRuntime, next: Next) -> io::Result<()> {
@@ -55,24 +44,16 @@ fn is_named(rt: &HostRuntime) -> bool {
 
 fn has_arg(rt: &HostRuntime, i: usize) -> bool {
     let mut space = [0u8; NAME];
-    match rt.arg(i, &mut space) {
-        Ok(_) => true,
-        Err(FillError::TooLong) => true,
-        Err(FillError::NotPresent) => false,
-    }
+    !matches!(rt.arg(i, &mut space), Err(FillError::NotPresent))
 }
 
 pub fn tell(rt: &HostRuntime, next: Next) {
-    match next {
-        Next::Full => {
-            let _ = eprintln!(rt; "runner: too many records");
-        }
-        Next::Goes | Next::Whole | Next::Cut | Next::Unknown | Next::Unread | Next::Unwritten => (),
+    if next == Next::Full {
+        let _ = eprintln!(rt; "runner: too many records");
     }
     if is_named(rt) {
-        match tell_file(rt, next) {
-            Ok(()) => (),
-            Err(e) => fail(rt, "runner: the ending cannot be written", &e),
+        if let Err(e) = tell_file(rt, next) {
+            fail(rt, "runner: the ending cannot be written", &e);
         }
     }
 }

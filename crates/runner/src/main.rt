@@ -48,14 +48,11 @@ fn run<R: Read, W: Write>(
         (W.contents output.new) result }
 {
     let mut held = Turn::first();
-    let mut meter = Meter {
-        since: 0,
-        megabytes: 0,
-    };
+    let mut meter = Meter::default();
     while held.goes() {
         let got = transfer::read_some(rt, input, buf, held);
         held = turn(rt, output, buf, held, got, out);
-        meter = terminal::metered(rt, meter, got, held);
+        meter.pass(rt, got, held);
     }
     held
 }

@@ -4,7 +4,8 @@ use mathlib.Core.Path.{◌≡◌, refl, sym, ap, subst, ◌∙◌}
 use mathlib.Core.Bool.{Bool, true, false, cond}
 use mathlib.Core.Logic.{◌⊎◌, inl, inr}
 use mathlib.Core.List.{List, [], ◌++◌, append_assoc, append-nil}
-use Prim.Native.Nat.{ℕ, ◌+◌, ◌*◌, ◌≤◌, ◌<◌}
+use Rattle.std.specs.Prelude.{Some, None}
+use Prim.Native.Nat.{ℕ, ◌+◌, ◌-◌, ◌*◌, ◌≤◌, ◌<◌}
 use native.Mathlib.Omega.{arith}
 use lib.ListN.{length, take, drop, get_or, length-drop}
 use lib.Seq.{take-add, drop-drop}
@@ -13,7 +14,7 @@ use Rattle.records.specs.Recording.{item_at, step_at, body_at, past}
 use Rattle.records.specs.declared.Item.{Item}
 use Rattle.records.specs.declared.Item.TheVariants.{Whole, Unknown}
 use Rattle.records.specs.declared.Step.{Step}
-use Rattle.records.proofs.Laws.{symbols_least, item_end, step_past, is_whole, is_unknown}
+use Rattle.records.proofs.Laws.{symbols_least, step_past, is_whole, is_unknown}
 use Rattle.answers.specs.declared.Answer.{Answer}
 use Rattle.answers.specs.Answering.{answer_of}
 use Rattle.lines.specs.Text.{ascii}
@@ -21,7 +22,7 @@ use Rattle.lines.specs.Lines.{LINE, answer_text, line}
 use Rattle.lines.specs.private.Placing.{Put}
 use Rattle.lines.proofs.Placing.{put_front}
 use Rattle.streaming.specs.Runner.{State, holding, feed}
-use Rattle.streaming.specs.private.Stepping.{Waits, came_to, Able, Reached, Settled, ItemTaken, Steps}
+use Rattle.streaming.specs.private.Stepping.{Waits, came_to, Able, Reached, Settled, NextItem}
 use Rattle.streaming.specs.declared.inner.Stepped.{Stepped}
 use Rattle.streaming.proofs.Feeding.{feed_append, over, gathers_whole, gathers_unknown}
 use Rattle.streaming.proofs.Waiting.{head}
@@ -36,21 +37,34 @@ found_item s at f g = sym (ap (λ (t : Step). t.item) f) ∙ g
 pub found_at : (s : List ℕ) (at : ℕ) {found : Step} {kind place : ℕ} → found ≡ step_at s at → found.item ≡ Whole kind place → found.at ≡ past kind at
 found_at s at f g = ap (λ (t : Step). t.at) f ∙ step_past s at (found_item s at f g)
 
--- a record's line, by the part of the bytes that its answer was made from
+-- a whole record stands within the bytes
+pub whole_within :
+    (s : List ℕ) (at : ℕ) (found : Step) (kind place : ℕ) → found ≡ step_at s at → found.item ≡ Whole kind place
+    → (place + 1 ≤ found.at) × (found.at ≤ length s)
+whole_within s at found kind place f g =
+    let w = is_whole s at (found_item s at f g) in
+    (omega (arith, found_at s at f g, w.place_is), omega (arith, found_at s at f g, w.within))
+
+-- the body of a record stands before the next one
+pub body_of : (s : List ℕ) (at : ℕ) {found : Step} {kind place : ℕ} → found ≡ step_at s at → found.item ≡ Whole kind place → take (found.at - (place + 1)) (drop (place + 1) s) ≡ body_at s kind place
+body_of s at {found} {kind} {place} f g =
+    let w = is_whole s at (found_item s at f g) in
+    ap (λ (n : ℕ). take n (drop (place + 1) s)) (omega (arith, found_at s at f g, w.place_is))
+
+-- the line of a record, by its body
 pub line_of :
-    (number kind place m : ℕ) (s : List ℕ) {a : Answer} {at next : ℕ} {old new : List ℕ} → a ≡ answer_of kind (take m (drop (place + 1) s))
-    → m ≡ body_length kind → Put (line number kind (answer_text a)) at old new next
-    → Put (line number kind (answer_text (answer_of kind (body_at s kind place)))) at old new next
-line_of number kind place m s {a} {at} {next} {old} {new} e l p =
-    subst (λ (b : Answer). Put (line number kind (answer_text b)) at old new next) (e ∙ ap (λ (j : ℕ). answer_of kind (take j (drop (place + 1) s))) l) p
+    {body other text : List ℕ} (number kind : ℕ) {a : Answer} → a ≡ answer_of kind other → other ≡ body → text ≡ line number kind (answer_text a)
+    → text ≡ line number kind (answer_text (answer_of kind body))
+line_of number kind e f g =
+    g ∙ ap (λ (b : Answer). line number kind (answer_text b)) (e ∙ ap (λ (l : List ℕ). answer_of kind l) f)
 
 -- ---- one item more
 module _ (bytes : List ℕ) (p : Stepped) (old : List ℕ) where
   -- nothing is taken
-  pub stays : Settled bytes p old → ItemTaken bytes p old p old
-  stays s = record { reached = λ count o. o; forth = omega arith; settled = λ e. s }
+  pub stays : Settled bytes p old → NextItem bytes p old None old
+  stays s count o = record { reached = o; settled = s }
 
-  pub stays_waiting : {i : Item} → item_at bytes p.taken ≡ i → Waits i → ItemTaken bytes p old p old
+  pub stays_waiting : {i : Item} → item_at bytes p.taken ≡ i → Waits i → NextItem bytes p old None old
   stays_waiting e w = stays (λ can. subst Waits (sym e) w)
 
   module _ (can : Able p (length old)) where
@@ -113,26 +127,24 @@ module _ (bytes : List ℕ) (p : Stepped) (old : List ℕ) where
         {kind place next at : ℕ} {new : List ℕ} → item_at bytes p.taken ≡ Whole kind place → at ≡ past kind p.taken
         → Put (line (p.count + 1) kind (answer_text (answer_of kind (body_at bytes kind place)))) p.written old new next
         → next ≤ p.written + LINE → next ≤ length new
-        → ItemTaken bytes p old (record { taken = at; written = next; count = p.count + 1; stopped = false }) new
-    whole_taken {kind} {place} {next} {at} {new} i a put l fits =
+        → NextItem bytes p old (Some (record { taken = at; written = next; count = p.count + 1; stopped = false })) new
+    whole_taken {kind} {place} {next} {at} {new} i a put l fits count o =
         let w = is_whole bytes p.taken i in
+        let few : next ≤ 3 * at = omega (arith, a, l, o.thrice can.reads, symbols_least kind w.known) in
         record {
-          reached = λ count o.
-              let few : next ≤ 3 * at = omega (arith, a, l, o.thrice can.reads, symbols_least kind w.known) in
-              record {
-                fed = λ text. ap (λ (m : ℕ). feed (holding [] text count) (take m bytes)) a ∙ fed_whole o i put text;
-                taken_in = omega (arith, a, w.within);
-                written_in = fits;
-                thrice = λ z. few;
-                thrice_and_line = omega (arith, few);
-                moves = λ z. inl (more (o.moves can.reads));
-                numbered = λ z. no_true z;
-              };
+          reached = record {
+            fed = λ text. ap (λ (m : ℕ). feed (holding [] text count) (take m bytes)) a ∙ fed_whole o i put text;
+            taken_in = omega (arith, a, w.within);
+            written_in = fits;
+            thrice = λ z. few;
+            thrice_and_line = omega (arith, few);
+            moves = λ z. inl (more (o.moves can.reads));
+            numbered = λ z. no_true z;
+          };
           forth = omega (arith, a);
-          settled = λ e. absurd (omega (arith, a, e));
         }
       where
-        more : {count : ℕ} → (count < p.count) ⊎ ((p.count ≡ count) × (p.taken ≡ 0)) → count < p.count + 1
+        more : (count < p.count) ⊎ ((p.count ≡ count) × (p.taken ≡ 0)) → count < p.count + 1
         more (inl x) = omega arith
         more (inr x) = omega (arith, x.0)
 
@@ -140,9 +152,9 @@ module _ (bytes : List ℕ) (p : Stepped) (old : List ℕ) where
     pub unknown_taken :
         {kind next : ℕ} {new : List ℕ} → item_at bytes p.taken ≡ Unknown kind → Put (line (p.count + 1) kind (ascii "unknown")) p.written old new next
         → next ≤ p.written + LINE → next ≤ length new
-        → ItemTaken bytes p old (record { taken = p.taken + 1; written = next; count = p.count; stopped = true }) new
-    unknown_taken {kind} {next} {new} i put l fits = record {
-      reached = λ count o. record {
+        → NextItem bytes p old (Some (record { taken = p.taken + 1; written = next; count = p.count; stopped = true })) new
+    unknown_taken {kind} {next} {new} i put l fits count o = record {
+      reached = record {
         fed = fed_unknown o i put;
         taken_in = omega (arith, (is_unknown bytes p.taken i).inside);
         written_in = fits;
@@ -152,7 +164,6 @@ module _ (bytes : List ℕ) (p : Stepped) (old : List ℕ) where
         numbered = λ z. can.number;
       };
       forth = omega arith;
-      settled = λ e. absurd (omega (arith, e));
     }
 
 -- ---- the loop
@@ -168,7 +179,3 @@ module _ (bytes : List ℕ) (count : ℕ) where
     moves = λ z. inr (refl, refl);
     numbered = λ z. no_true z;
   }
-
-  -- all was taken
-  pub steps_all : {p : Stepped} {out : List ℕ} → Reached bytes count p out → length bytes ≤ p.taken → Steps bytes count p out
-  steps_all {p} o h = record { reached = o; settled = λ can. subst Waits (sym (item_end bytes p.taken h)) tt }

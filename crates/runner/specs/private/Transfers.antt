@@ -6,15 +6,15 @@ use Rattle.std.specs.Io.KnownBytes.{Consumes, Appends, IsAtEnd}
 use Rattle.std.specs.declared.option.Option.{Option}
 use Rattle.reading.specs.declared.Got.{Got}
 use Rattle.reading.specs.declared.Turn.{Turn}
-use Rattle.reading.specs.Turns.{wrote}
+use Rattle.reading.specs.Turns.{wrote, bytes_of, has_failed}
 use Rattle.reading.specs.Reading.{brought, Takes}
 
 -- what a read leaves: the bytes that were kept, and behind them as many as were got, which the reader gave; it has no more where none were got
 pub record Reads (given left : Option (List ℕ)) (held : Turn) (got : Got) (from buf : List ℕ) : Type 0 where
-  pub inside : held.kept + got.bytes ≤ length buf
+  pub inside : held.kept + bytes_of got ≤ length buf
   pub kept : take held.kept buf ≡ take held.kept from
   pub came : Consumes given left (brought held got buf)
-  pub end : got.failed ≡ false → got.bytes ≡ 0 → IsAtEnd left
+  pub end : has_failed got ≡ false → bytes_of got ≡ 0 → IsAtEnd left
 
 -- the writer took the text where that was done, and otherwise a front of it
 pub record Lands (had has : Option (List ℕ)) (text : List ℕ) (done : Bool) : Type 0 where

@@ -1,6 +1,6 @@
 -- What a step takes from the bytes that a buffer holds, by the definition of the runner: whole records, as long as there is room for another line.
 -- Assumes nothing.
-use Rattle.std.specs.Prelude.{Bool, true, false, ◌≡◌, ◌⊎◌, List, [], ◌++◌, ℕ, ◌+◌, ◌*◌, ◌≤◌, ◌<◌, length, take}
+use Rattle.std.specs.Prelude.{Option, MatchOption, Bool, true, false, ◌≡◌, ◌⊎◌, List, [], ◌++◌, ℕ, ◌+◌, ◌*◌, ◌≤◌, ◌<◌, length, take}
 use Rattle.records.specs.Recording.{item_at}
 use Rattle.records.specs.declared.Item.{Item}
 use Rattle.records.specs.declared.Item.TheVariants.{Whole, Unknown, Cut, End}
@@ -43,13 +43,16 @@ pub record Reached (bytes : List ℕ) (count : ℕ) (p : Stepped) (out : List �
 abbrev pub Settled : List ℕ → Stepped → List ℕ → Type 0
 Settled bytes p out = Able p (length out) → Waits (item_at bytes p.taken)
 
--- what comes of one item: however far it was, it is as far again, and it is settled if nothing was taken
-pub record ItemTaken (bytes : List ℕ) (p : Stepped) (old : List ℕ) (r : Stepped) (new : List ℕ) : Type 0 where
-  pub reached : (count : ℕ) → Reached bytes count p old → Reached bytes count r new
-  pub forth : p.taken ≤ r.taken
-  pub settled : r.taken ≡ p.taken → Settled bytes r new
-
 -- what comes of a step
 pub record Steps (bytes : List ℕ) (count : ℕ) (r : Stepped) (new : List ℕ) : Type 0 where
   pub reached : Reached bytes count r new
   pub settled : Settled bytes r new
+
+-- more was taken
+pub record Further (bytes : List ℕ) (count : ℕ) (p r : Stepped) (new : List ℕ) : Type 0 where
+  pub reached : Reached bytes count r new
+  pub forth : p.taken < r.taken
+
+-- what comes of one item: however far it was, it is further, or it is settled where it was
+abbrev pub NextItem : List ℕ → Stepped → List ℕ → Option Stepped → List ℕ → Type 0
+NextItem bytes p old next new = (count : ℕ) → Reached bytes count p old → MatchOption next (Steps bytes count p new) (λ r. Further bytes count p r new)

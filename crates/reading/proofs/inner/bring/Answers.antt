@@ -1,5 +1,6 @@
 use borrow.Author.Rules.{rules}
-use Prim.Native.Nat.{◌≤◌}
+use Prim.Native.Nat.{ℕ, ◌-◌, ◌≤◌}
+use mathlib.Core.Path.{sym, ap}
 use lib.ListN.{length, take}
 use lib.Seq.{length-take-le}
 use Rattle.streaming.specs.private.Advancing.{Roomy}
@@ -22,4 +23,5 @@ returns c =
     let bytes = length-take-le c.args.fill c.args.buf.now (search rules) in
     let roomy : Roomy (take c.args.fill c.args.buf.now) c.args.out.now c.advance-p.result =
     record { lines = omega (arith, bytes, c.requires.0, c.requires.1.output); number = omega (arith, c.if-p-2.false) } in
-    brings_goes _ _ _ c.advance-p.ensures (search rules) roomy (omega (arith, c.advance-p.ensures.written_in, c.advance-p.auto.out))
+    brings_goes _ _ _ c.advance-p.ensures (ap (λ (n : ℕ). n - c.advance-p.result.taken) (sym bytes)) (search rules) roomy
+    (omega (arith, c.advance-p.ensures.written_in, c.advance-p.auto.out))

@@ -1,9 +1,0 @@
--- Each read that is made again leaves what is kept and takes nothing from the reader.
-use Rattle.std.proofs.Common.{◌≡◌, length, take}
-use Rattle.std.specs.Io.KnownBytes.{Keeps}
-use Rattle.runner.proofs.transfer.read_some.Given as goal
-
-abbrev pub invariant-loop : goal.invariant-loop
-invariant-loop g l =
-    (length l.buf ≡ length l.initial.buf) × (take l.fill l.buf ≡ take l.fill l.initial.buf)
-    × Keeps (g.R.Read.remaining l.initial.input) (g.R.Read.remaining l.input)
