@@ -1,4 +1,3 @@
-pub mod Answered
 pub mod Parts
 pub mod Turns
 pub mod Pieces
