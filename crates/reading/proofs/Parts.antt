@@ -75,6 +75,7 @@ module _ (bytes : List ℕ) (count : ℕ) (old : List ℕ) {p : Stepped} {buf ou
         came input text z e ∙ waits_held (take kept buf) (text ++ take p.written out) p.count (a.waits z m)
         ∙ ap (λ (n : ℕ). holding (take n buf) (text ++ take p.written out) p.count) (sym l);
     how = inl refl;
+    kept_in = omega (arith, l);
     fits = fits;
     less = λ g. (omega (arith, l, a.less z m, a.taken_in), m.number);
     moves = λ g. moved (a.moves z);
@@ -90,6 +91,7 @@ module _ (bytes : List ℕ) (count : ℕ) (old : List ℕ) {p : Stepped} {buf ou
   brings_full z m fits = record {
     says = λ input text e. (m, take kept buf, came input text z e);
     how = inr (inr refl);
+    kept_in = omega arith;
     fits = fits;
     less = λ g. let z : ◌≡◌ {A = ℕ} 0 1 = cc in absurd (omega arith);
     moves = λ g. let z : ◌≡◌ {A = ℕ} 0 1 = cc in absurd (omega arith);
@@ -101,6 +103,7 @@ module _ (bytes : List ℕ) (count : ℕ) (old : List ℕ) {p : Stepped} {buf ou
   brings_unknown z {written} {last} inside put fits = record {
     says = λ input text e later. ends_unknown input text e later;
     how = inr (inl refl);
+    kept_in = omega arith;
     fits = fits;
     less = λ g. let z : ◌≡◌ {A = ℕ} 0 1 = cc in absurd (omega arith);
     moves = λ g. let z : ◌≡◌ {A = ℕ} 0 1 = cc in absurd (omega arith);

@@ -9,6 +9,7 @@ use native.Mathlib.Omega.{arith}
 use Rattle.std.specs.Prelude.{Option, Some, None, is_none, unwrap_or}
 use lib.ListN.{length, take, drop}
 use lib.Seq.{take-add, length-take-le}
+use Rattle.std.proofs.lemmas.List.{take-append-le}
 use Rattle.records.specs.Recording.{pick}
 use Rattle.streaming.specs.Runner.{State, holding, start, feed}
 use Rattle.streaming.proofs.Stepping.{no_true}
@@ -81,17 +82,20 @@ module _ (held : Turn) (got : Got) (from : List ℕ) where
       }
 
   pub takes_bytes :
-      {r : Turn} {buf out : List ℕ} {many : ℕ} → has_failed got ≡ false → bytes_of got ≡ many → 0 < many → held.kept + bytes_of got ≤ length from
-      → Brings (take (held.kept + many) from) held.count r buf out → Takes held got from r buf out
-  takes_bytes {r} {buf} {out} f m n h c =
-      let b = subst (λ (k : ℕ). Brings (take (held.kept + k) from) held.count r buf out) (sym m) c in
+      {r : Turn} {front out : List ℕ} {many : ℕ} (rest : List ℕ) → has_failed got ≡ false → bytes_of got ≡ many → 0 < many
+      → held.kept + bytes_of got ≤ length from → length front ≡ length (take (held.kept + many) from)
+      → Brings (take (held.kept + many) from) held.count r front out → Takes held got from r (front ++ rest) out
+  takes_bytes {r} {front} {out} rest f m n h same c =
+      let b = subst (λ (k : ℕ). Brings (take (held.kept + k) from) held.count r front out) (sym m) c in
+      let kept : take r.kept (front ++ rest) ≡ take r.kept front = take-append-le r.kept front rest (omega (arith, c.kept_in, same)) in
       let bytes = take (held.kept + bytes_of got) from in
       let whole : take held.kept from ++ brought held got from ≡ bytes =
       ap (λ (l : List ℕ). take held.kept from ++ l) (brought_some f) ∙ sym (take-add held.kept (bytes_of got) from) in
       record {
         says = λ input text s.
-            b.says (input ++ brought held got from) text
-            (joins input (brought held got from) s ∙ ap (λ (l : List ℕ). feed (holding [] text held.count) l) whole);
+            subst (λ (l : List ℕ). Says r.next (input ++ brought held got from) l (text ++ take r.written out) r.count) (sym kept)
+            (b.says (input ++ brought held got from) text
+            (joins input (brought held got from) s ∙ ap (λ (l : List ℕ). feed (holding [] text held.count) l) whole));
         failed = λ z. no_true (sym f ∙ z);
         ended = λ z l. absurd (omega (arith, l, m, n));
         came = λ z l. b.how;

@@ -9,12 +9,12 @@ ghost use Rattle.reading.specs.private.Parts.{Brings, Finishes};
 use crate::{Got, Next, Turn};
 use streaming::inner::{advance, close};
 
-// The first `fill` bytes of the buffer are taken in.
-fn bring(buf: &mut [u8], fill: usize, count: u64, out: &mut [u8]) -> Turn
-    requires { (fill ≤ length buf.old) × Room buf.old out.old }
-    ensures { Brings (take fill buf.old) count result buf.new out.new }
+// Bytes have come, and are taken in.
+fn bring(bytes: &mut [u8], count: u64, out: &mut [u8]) -> Turn
+    requires { 3 * length bytes.old + 3 * LINE ≤ length out.old }
+    ensures { Brings bytes.old count result bytes.new out.new }
 {
-    let p = advance(buf, fill, count, out);
+    let p = advance(bytes, count, out);
     if p.stopped {
         return Turn {
             kept: 0,
@@ -32,7 +32,7 @@ fn bring(buf: &mut [u8], fill: usize, count: u64, out: &mut [u8]) -> Turn
         };
     }
     Turn {
-        kept: fill - p.taken,
+        kept: bytes.len() - p.taken,
         written: p.written,
         count: p.count,
         next: Next::Goes,
@@ -76,5 +76,5 @@ pub fn take_in(buf: &mut [u8], held: Turn, got: Got, out: &mut [u8]) -> Turn
     if bytes == 0 {
         return finish(&buf[..held.kept], held.count, out);
     }
-    bring(buf, held.kept + bytes, held.count, out)
+    bring(&mut buf[..held.kept + bytes], held.count, out)
 }

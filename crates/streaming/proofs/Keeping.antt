@@ -1,12 +1,12 @@
 -- Laws of what is moved to a buffer's front.
 -- Assumes nothing.
-use mathlib.Core.Path.{◌≡◌, sym, ap, ap₂, subst, ◌∙◌}
+use mathlib.Core.Path.{◌≡◌, sym, ap, subst, ◌∙◌}
 use mathlib.Core.Bool.{false}
 use mathlib.Core.List.{List, [], append_assoc}
 use Prim.Native.Nat.{ℕ, ◌+◌, ◌-◌, ◌*◌, ◌≤◌, ◌<◌}
 use native.Mathlib.Omega.{arith}
 use lib.ListN.{length, take, drop, length-drop, take-append-drop}
-use lib.Seq.{take-add, length-take-le, take_at, paste, drop_at}
+use lib.Seq.{take-length, take_at, paste}
 use Rattle.records.specs.Recording.{item_at}
 use Rattle.lines.specs.Lines.{LINE}
 use Rattle.streaming.specs.Runner.{State, holding, feed}
@@ -17,23 +17,15 @@ use Rattle.streaming.specs.declared.inner.Stepped.{Stepped}
 use Rattle.streaming.proofs.Feeding.{feed_append}
 use Rattle.streaming.proofs.Waiting.{waits_less, waits_drop}
 
-pub part : (l : List ℕ) (f t : ℕ) → f ≤ t → t ≤ length l → take (t - f) (drop f l) ≡ drop f (take t l)
-part l f t h k =
-    let m : t ≡ f + (t - f) = omega arith in
-    sym (drop_at (take f l) (take (t - f) (drop f l)) f (length-take-le f l (omega arith)))
-    ∙ ap (λ (x : List ℕ). drop f x) (sym (take-add f (t - f) l)) ∙ ap (λ (n : ℕ). drop f (take n l)) (sym m)
-
 -- what was not taken is moved to the front
 pub kept :
-    (fill : ℕ) (buf : List ℕ) {taken : ℕ} {new : List ℕ} → fill ≤ length buf → taken ≤ length (take fill buf) → new ≡ paste buf 0 (drop taken buf) (fill - taken)
-    → take (length (take fill buf) - taken) new ≡ drop taken (take fill buf)
-kept fill buf {taken} {new} h k e =
-    let m : length (take fill buf) ≡ fill = length-take-le fill buf h in
-    let n : length (take (fill - taken) (drop taken buf)) ≡ fill - taken = length-take-le (fill - taken) (drop taken buf) (omega (arith, length-drop taken buf)) in
-    ap₂ (λ (j : ℕ) (l : List ℕ). take (j - taken) l) m e
-    ∙ ap (λ (l : List ℕ). take (fill - taken) l) (append_assoc [] (take (fill - taken) (drop taken buf)) _)
-    ∙ take_at (take (fill - taken) (drop taken buf)) _ (fill - taken) n
-    ∙ part buf taken fill (omega (arith, k, m)) h
+    (bytes : List ℕ) (taken : ℕ) {new : List ℕ} → new ≡ paste bytes 0 (drop taken bytes) (length bytes - taken)
+    → take (length bytes - taken) new ≡ drop taken bytes
+kept bytes taken {new} e =
+    let n : length bytes - taken ≡ length (drop taken bytes) = sym (length-drop taken bytes) in
+    let all : take (length bytes - taken) (drop taken bytes) ≡ drop taken bytes = ap (λ (k : ℕ). take k (drop taken bytes)) n ∙ take-length (drop taken bytes) in
+    ap (λ (l : List ℕ). take (length bytes - taken) l) (e ∙ append_assoc [] (take (length bytes - taken) (drop taken bytes)) _)
+    ∙ take_at (take (length bytes - taken) (drop taken bytes)) _ (length bytes - taken) (ap length all ∙ sym n) ∙ all
 
 -- ---- a step and what it keeps
 module _ (bytes : List ℕ) (count : ℕ) {p : Stepped} {new : List ℕ} (s : Steps bytes count p new) where

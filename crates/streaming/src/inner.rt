@@ -84,14 +84,12 @@ fn step(s: &[u8], count: u64, out: &mut [u8]) -> Stepped
     p
 }
 
-// A step over the first `fill` bytes of a buffer, after which those that were not taken stand at its
-// front.
-pub fn advance(buf: &mut [u8], fill: usize, count: u64, out: &mut [u8]) -> Stepped
-    requires { fill ≤ length buf.old }
-    ensures { Advances (take fill buf.old) count out.old result buf.new out.new }
+// A step over the bytes of a buffer, after which those that were not taken stand at its front.
+pub fn advance(bytes: &mut [u8], count: u64, out: &mut [u8]) -> Stepped
+    ensures { Advances bytes.old count out.old result bytes.new out.new }
 {
-    let p = step(&buf[..fill], count, out);
-    buf.copy_within(p.taken..fill, 0);
+    let p = step(bytes, count, out);
+    bytes.copy_within(p.taken.., 0);
     p
 }
 

@@ -13,6 +13,7 @@ pub record Brings (bytes : List ℕ) (count : ℕ) (r : Turn) (buf out : List �
       (input text : List ℕ) → feed start input ≡ feed (holding [] text count) bytes
       → Says r.next input (take r.kept buf) (text ++ take r.written out) r.count
   pub how : (r.next ≡ Goes) ⊎ ((r.next ≡ Unknown) ⊎ (r.next ≡ Full))
+  pub kept_in : r.kept ≤ length bytes
   pub fits : r.written ≤ length out
   pub less : r.next ≡ Goes → (r.kept < LONGEST) × (r.count < LARGEST)
   pub moves : r.next ≡ Goes → (count < r.count) ⊎ ((r.count ≡ count) × (r.kept ≡ length bytes))

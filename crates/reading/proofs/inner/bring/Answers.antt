@@ -1,11 +1,7 @@
 use borrow.Author.Rules.{rules}
-use Prim.Native.Nat.{ℕ, ◌-◌, ◌≤◌}
-use mathlib.Core.Path.{sym, ap}
-use lib.ListN.{length, take}
-use lib.Seq.{length-take-le}
+use Rattle.std.proofs.Common.{◌≤◌, length, arith}
 use Rattle.streaming.specs.private.Advancing.{Roomy}
 use Rattle.reading.proofs.Parts.{brings_goes, brings_full, brings_unknown}
-use native.Mathlib.Omega.{arith}
 use Rattle.reading.proofs.inner.bring.Goals as goal
 
 pub returns-then-p : goal.returns-then-p
@@ -20,8 +16,7 @@ returns-then-p-2 c =
 
 pub returns : goal.returns
 returns c =
-    let bytes = length-take-le c.args.fill c.args.buf.now (search rules) in
-    let roomy : Roomy (take c.args.fill c.args.buf.now) c.args.out.now c.advance-p.result =
-    record { lines = omega (arith, bytes, c.requires.0, c.requires.1.output); number = omega (arith, c.if-p-2.false) } in
-    brings_goes _ _ _ c.advance-p.ensures (ap (λ (n : ℕ). n - c.advance-p.result.taken) (sym bytes)) (search rules) roomy
+    let roomy : Roomy c.args.bytes.now c.args.out.now c.advance-p.result =
+    record { lines = omega (arith, c.requires); number = omega (arith, c.if-p-2.false) } in
+    brings_goes _ _ _ c.advance-p.ensures (omega (arith, c.advance-p.auto.bytes)) (search rules) roomy
     (omega (arith, c.advance-p.ensures.written_in, c.advance-p.auto.out))

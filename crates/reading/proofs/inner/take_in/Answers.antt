@@ -10,4 +10,5 @@ returns-then-bytes-eq0 c = takes_end _ _ _ (is_read _ c.in-Some.is) (is_many _ c
 
 pub returns : goal.returns
 returns c =
-    takes_bytes _ _ _ (is_read _ c.in-Some.is) (is_many _ c.in-Some.is) (omega (arith, c.if-bytes-eq0.false)) c.requires.inside c.bring.ensures
+    takes_bytes c.args.held c.args.got c.args.buf.now _ (is_read c.args.got c.in-Some.is) (is_many c.args.got c.in-Some.is) (omega (arith, c.if-bytes-eq0.false))
+    c.requires.inside c.bring.auto.bytes c.bring.ensures

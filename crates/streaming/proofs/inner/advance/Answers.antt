@@ -4,5 +4,4 @@ use Rattle.streaming.proofs.inner.advance.Goals as goal
 pub returns : goal.returns
 returns c =
     let step = c.step-p in
-    advanced _ _ step.ensures c.copy_within.new.self
-    (kept c.args.fill c.args.buf.now c.requires step.ensures.reached.taken_in c.copy_within.ensures.after) step.auto.out
+    advanced _ _ step.ensures c.copy_within.new.self (kept c.args.bytes.now step.result.taken c.copy_within.ensures.after) step.auto.out
