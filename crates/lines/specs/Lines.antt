@@ -1,9 +1,11 @@
 -- The runner's lines (document 01, "The runner"): one space parts the fields, and each line ends with a newline.
 -- Assumes nothing.
-use Rattle.std.specs.Prelude.{List, ◌++◌, ℕ}
+use Rattle.std.specs.Prelude.{List, ◌++◌, ℕ, Result, Ok, Err}
+use Rattle.base.specs.declared.Refusal.{Refusal}
+use Rattle.base.specs.Refusal.{number}
 use Rattle.rm3014.specs.declared.Verdict.TheVariants.{Clean, Mended, Beyond}
 use Rattle.answers.specs.declared.Answer.{Answer}
-use Rattle.answers.specs.declared.Answer.TheVariants.{Good, Bad, Aach, Refused}
+use Rattle.answers.specs.declared.Answer.TheVariants.{Good, Bad, Aach}
 use Rattle.lines.specs.Text.{ascii, hex, decimal}
 
 -- no line is longer than this, at the widths that the runner's numbers have
@@ -19,13 +21,13 @@ unfoldable pub judged : List ℕ → ℕ → ℕ → List ℕ
 judged word place contents = counted word place ++ ascii " " ++ hex 4 contents
 
 -- an answer: what a chain counted; a verdict, whose place is 0 if none was mended; or the number of a refusal
-abbrev pub answer_text : Answer → List ℕ
-answer_text (Good counts) = counted (ascii "good") counts.disagreements
-answer_text (Bad counts) = counted (ascii "bad") counts.disagreements
-answer_text (Aach (Clean contents)) = judged (ascii "clean") 0 contents
-answer_text (Aach (Mended place contents)) = judged (ascii "mended") place contents
-answer_text (Aach (Beyond contents)) = judged (ascii "beyond") 0 contents
-answer_text (Refused number) = counted (ascii "refused") number
+abbrev pub answer_text : Result Answer Refusal → List ℕ
+answer_text (Ok (Good counts)) = counted (ascii "good") counts.disagreements
+answer_text (Ok (Bad counts)) = counted (ascii "bad") counts.disagreements
+answer_text (Ok (Aach (Clean contents))) = judged (ascii "clean") 0 contents
+answer_text (Ok (Aach (Mended place contents))) = judged (ascii "mended") place contents
+answer_text (Ok (Aach (Beyond contents))) = judged (ascii "beyond") 0 contents
+answer_text (Err refusal) = counted (ascii "refused") (number refusal)
 
 -- the line of a record: its number, its kind in two digits, and what is said of it
 unfoldable pub line : ℕ → ℕ → List ℕ → List ℕ

@@ -5,10 +5,11 @@ ghost use Rattle.std.specs.Prelude.{[], ◌∷◌, ◌++◌, ◌+◌, ◌≤◌,
 ghost use Rattle.lines.specs.private.Placing.{Put};
 ghost use Rattle.lines.specs.private.Widths.{SAID, heading, said_text};
 ghost use Rattle.lines.specs.Text.{sign, decimal, hex};
-ghost use Rattle.lines.specs.Lines.{counted, judged, answer_text, line, end_line};
+ghost use Rattle.lines.specs.Lines.{counted, judged, line, end_line};
 
 use crate::LINE;
 use answers::Answer;
+use base::Refusal;
 use rm3014::Verdict;
 use std::marker::Model;
 
@@ -16,7 +17,7 @@ use std::marker::Model;
 // cut.
 #[derive(Clone, Copy)]
 pub enum Said {
-    Answered(Answer),
+    Answered(Result<Answer, Refusal>),
     Unknown,
     Short,
 }
@@ -121,37 +122,27 @@ impl Line {
         self.push_hex(4, contents);
     }
 
-    fn push_verdict(&mut self, verdict: Verdict)
-        requires { length self.old + SAID ≤ LINE }
-        ensures { self.new ≡ self.old ++ answer_text (Answer.Aach verdict) }
-    {
-        match verdict {
-            Verdict::Clean(contents) => self.push_judged(b"clean", 0, contents as u64),
-            Verdict::Mended(place, contents) => {
-                self.push_judged(b"mended", place as u64, contents as u64)
-            }
-            Verdict::Beyond(contents) => self.push_judged(b"beyond", 0, contents as u64),
-        }
-    }
-
-    fn push_answer(&mut self, answer: Answer)
-        requires { length self.old + SAID ≤ LINE }
-        ensures { self.new ≡ self.old ++ answer_text answer }
-    {
-        match answer {
-            Answer::Good(counts) => self.push_counted(b"good", counts.disagreements as u64),
-            Answer::Bad(counts) => self.push_counted(b"bad", counts.disagreements as u64),
-            Answer::Aach(verdict) => self.push_verdict(verdict),
-            Answer::Refused(number) => self.push_counted(b"refused", number as u64),
-        }
-    }
-
     fn push_said(&mut self, said: Said)
         requires { length self.old + SAID ≤ LINE }
         ensures { self.new ≡ self.old ++ said_text said }
     {
         match said {
-            Said::Answered(answer) => self.push_answer(answer),
+            Said::Answered(Ok(Answer::Good(counts))) => {
+                self.push_counted(b"good", counts.disagreements as u64)
+            }
+            Said::Answered(Ok(Answer::Bad(counts))) => {
+                self.push_counted(b"bad", counts.disagreements as u64)
+            }
+            Said::Answered(Ok(Answer::Aach(verdict))) => match verdict {
+                Verdict::Clean(contents) => self.push_judged(b"clean", 0, contents as u64),
+                Verdict::Mended(place, contents) => {
+                    self.push_judged(b"mended", place as u64, contents as u64)
+                }
+                Verdict::Beyond(contents) => self.push_judged(b"beyond", 0, contents as u64),
+            },
+            Said::Answered(Err(refusal)) => {
+                self.push_counted(b"refused", u8::from(refusal) as u64)
+            }
             Said::Unknown => self.push_text(b"unknown"),
             Said::Short => self.push_text(b"short"),
         }

@@ -2,6 +2,8 @@
 -- Assumes nothing.
 use mathlib.Core.Path.{◌≡◌, refl, ap}
 use mathlib.Core.List.{[], ◌∷◌, ◌++◌}
+use Rattle.std.specs.Prelude.{Result}
+use Rattle.base.specs.declared.Refusal.{Refusal}
 use Rattle.answers.specs.declared.Answer.{Answer}
 use Rattle.answers.proofs.Examples.{access_body, access_answer}
 use Rattle.lines.specs.Text.{ascii, sign, decimal_within}
@@ -28,4 +30,4 @@ of_cut = refl
 -- document 01: kind 05, start 0, the 30 bits of 0x20009b61, then a byte 7f
 pub of_document : lines_of ((0x05 ∷ access_body) ++ (0x7f ∷ [])) ≡ ascii "1 05 mended 30 2000\n2 7f unknown\nend 1\n"
 unfolding one feed closing step_at symbols_of line end_line counted judged decimal_within sign
-of_document = ap (λ (a : Answer). line 1 5 (answer_text a) ++ line 2 0x7f (ascii "unknown") ++ end_line 1) access_answer
+of_document = ap (λ (a : Result Answer Refusal). line 1 5 (answer_text a) ++ line 2 0x7f (ascii "unknown") ++ end_line 1) access_answer

@@ -4,7 +4,8 @@ use mathlib.Core.Path.{◌≡◌, refl, sym, ap, subst, ◌∙◌}
 use mathlib.Core.Bool.{Bool, true, false, cond}
 use mathlib.Core.Logic.{◌⊎◌, inl, inr}
 use mathlib.Core.List.{List, [], ◌++◌, append_assoc, append-nil}
-use Rattle.std.specs.Prelude.{Some, None}
+use Rattle.std.specs.Prelude.{Some, None, Result}
+use Rattle.base.specs.declared.Refusal.{Refusal}
 use Prim.Native.Nat.{ℕ, ◌+◌, ◌-◌, ◌*◌, ◌≤◌, ◌<◌}
 use native.Mathlib.Omega.{arith}
 use lib.ListN.{length, take, drop, get_or, length-drop}
@@ -53,10 +54,10 @@ body_of s at {found} {kind} {place} f g =
 
 -- the line of a record, by its body
 pub line_of :
-    {body other text : List ℕ} (number kind : ℕ) {a : Answer} → a ≡ answer_of kind other → other ≡ body → text ≡ line number kind (answer_text a)
+    {body other text : List ℕ} (number kind : ℕ) {a : Result Answer Refusal} → a ≡ answer_of kind other → other ≡ body → text ≡ line number kind (answer_text a)
     → text ≡ line number kind (answer_text (answer_of kind body))
 line_of number kind e f g =
-    g ∙ ap (λ (b : Answer). line number kind (answer_text b)) (e ∙ ap (λ (l : List ℕ). answer_of kind l) f)
+    g ∙ ap (λ (b : Result Answer Refusal). line number kind (answer_text b)) (e ∙ ap (λ (l : List ℕ). answer_of kind l) f)
 
 -- ---- one item more
 module _ (bytes : List ℕ) (p : Stepped) (old : List ℕ) where
