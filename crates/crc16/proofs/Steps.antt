@@ -2,18 +2,13 @@
 -- Assumes nothing.
 use mathlib.Core.Path.{◌≡◌, refl, sym, ap, ◌∙◌}
 use mathlib.Core.List.{List, [], ◌∷◌, ◌++◌}
-use Prim.Native.Nat.{ℕ, ◌+◌, ◌*◌, ◌/◌, ◌%◌, ◌≤◌, ◌<◌}
-use borrow.Author.Tests.{lt-ltb, le-ltb}
+use Prim.Native.Nat.{ℕ, ◌+◌, ◌*◌, ◌/◌, ◌%◌, ◌<◌}
 use native.Mathlib.Omega.{arith}
 use lib.Bits.{xor_lt}
-use lib.ListN.{length}
 use Rattle.base.proofs.Lists.{tabulate_more}
-use Rattle.std.specs.Prelude.{Ok, Err}
 use Rattle.std.specs.List.{fold}
-use Rattle.base.specs.declared.Refusal.TheVariants as refusals
-use Rattle.base.specs.Refusal.{valued}
 use Rattle.base.specs.Places.{tabulate}
-use Rattle.crc16.specs.Crc.{GENERATOR, step, register, bit_of, bytes_refusal}
+use Rattle.crc16.specs.Crc.{GENERATOR, step, register, bit_of}
 
 pub step_lt : (reg b : ℕ) → step reg b < 65536
 unfolding step
@@ -53,10 +48,3 @@ pub packed_more : (crc reg r i b : ℕ) (s : List ℕ) → reg ≡ register crc 
 packed_more crc reg r i b s p o q =
     q ∙ ap (step reg) o ∙ ap (λ (x : ℕ). step x (bit_of s i)) p ∙ sym (register_more crc (tabulate (bit_of s) i) (bit_of s i))
     ∙ ap (register crc) (sym (tabulate_more (bit_of s) i))
-
--- ---- the byte form's answers
-pub bytes_short : (s : List ℕ) (n value : ℕ) → 8 * length s < n → Err refusals.Short ≡ valued (bytes_refusal s n) value
-bytes_short s n value h = rw (lt-ltb (8 * length s) n h)
-
-pub bytes_enough : (s : List ℕ) (n r value : ℕ) → n ≤ 8 * length s → r ≡ value → Ok r ≡ valued (bytes_refusal s n) value
-bytes_enough s n r value h e = rw (le-ltb (8 * length s) n h) (ap Ok e)

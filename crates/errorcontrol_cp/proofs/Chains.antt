@@ -23,9 +23,9 @@ use Rattle.convenc.specs.Generators.{control, outputs, encode_refusal}
 use Rattle.convenc.proofs.Calls.{encode_accepts}
 use Rattle.convenc.proofs.Encoding.{encoded_bits, encoded_length}
 use Rattle.base.proofs.Moves.{scatter_length}
-use Rattle.puncturing.specs.Puncturing.{kept_place, punctured, depunctured}
-use Rattle.interleaver.specs.Interleaving.{interleaved, deinterleaved}
-use Rattle.scrambler.specs.Scrambling.{scrambled, descrambled}
+use Rattle.puncturing.specs.Puncturing.{kept_place, depunctured}
+use Rattle.interleaver.specs.Interleaving.{deinterleaved}
+use Rattle.scrambler.specs.Scrambling.{descrambled}
 use Rattle.viterbi.specs.Decoding.{decoded, disagreements, cleared}
 use Rattle.viterbi.specs.private.Finding.{Finds}
 use Rattle.stages.proofs.Calls.{whole, front}
@@ -63,13 +63,6 @@ module _ (block mother : List ℕ) (was : mother ≡ encode (outputs control) 0 
 
   pub mother_bits : Bits mother
   mother_bits = subst Bits (sym was) (encoded_bits control 0 (word_of block))
-
--- the air symbols of a mother code that stands over the front of a work array
-pub sent_made : (n k a start mode count step from : ℕ) (mother work w : List ℕ) → mode ≡ 0 → count ≡ k → step ≡ a → from ≡ start
-    → length mother ≡ 4 * n → mother ≡ encode (outputs control) 0 w
-    → scrambled from (interleaved count step (punctured mode count (take (4 * n) (mother ++ drop (4 * n) work))) (replicate count 0)) ≡ sent_by k a start w
-sent_made n k a start mode count step from mother work w p q r s size was =
-    rw (p, q, r, s) (ap (λ (m : List ℕ). scrambled start (interleaved k a (punctured 0 k m) (replicate k 0))) (front (4 * n) mother work size ∙ was))
 
 -- ---- the mother symbols over the front of erasures
 pub symbols_made : (n k a start mode count step from : ℕ) (air work made : List ℕ) → mode ≡ 0 → count ≡ k → step ≡ a → from ≡ start

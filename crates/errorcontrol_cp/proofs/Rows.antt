@@ -1,11 +1,11 @@
 -- What the rows of the table have in common: all that the chains' arguments know of a kind.
 -- Assumes nothing.
-use mathlib.Core.Path.{◌≡◌, refl, ap}
+use mathlib.Core.Path.{◌≡◌, refl}
 use mathlib.Core.Bool.{Bool, true, false}
 use Prim.Native.Nat.{ℕ, zero, suc, ◌+◌, ◌*◌, ◌≤◌, ◌<◌}
 use native.Mathlib.Omega.{arith}
 use lib.Dec.{ltb}
-use borrow.Author.Tests.{ltb-true, lt-ltb, le-ltb}
+use borrow.Author.Tests.{ltb-true}
 use Rattle.base.specs.Bits.{both}
 use Rattle.puncturing.specs.Puncturing.{position, needed}
 use Rattle.interleaver.specs.Interleaving.{shared}
@@ -30,19 +30,6 @@ unfolding is_kind
 kind_from kind e =
     let p = both_split (ltb 0 kind) (ltb kind 5) e in
     (ltb-true 0 kind p.0, ltb-true kind 5 p.1)
-
-pub kind_yes : (kind : ℕ) → (kind ≡ 0 → ⊥) → kind ≤ 4 → is_kind kind ≡ true
-unfolding is_kind
-kind_yes zero h k = absurd (h refl)
-kind_yes (suc kind) h k = rw (lt-ltb 0 (suc kind) (omega arith), lt-ltb (suc kind) 5 (omega arith))
-
-pub kind_zero : (kind : ℕ) → kind ≡ 0 → is_kind kind ≡ false
-unfolding is_kind
-kind_zero kind e = ap is_kind e
-
-pub kind_beyond : (kind : ℕ) → 4 < kind → is_kind kind ≡ false
-unfolding is_kind
-kind_beyond kind h = rw (lt-ltb 0 kind (omega arith), le-ltb kind 5 (omega arith))
 
 pub row : (kind : ℕ) → is_kind kind ≡ true → Row kind
 unfolding data_bits word_bits air_symbols interleaver_step shared needed position

@@ -2,18 +2,16 @@
 -- Assumes nothing.
 use mathlib.Core.Path.{◌≡◌, refl, sym, ap, subst, ◌∙◌}
 use mathlib.Core.List.{List}
-use mathlib.Core.Bool.{true, false}
-use Prim.Native.Nat.{ℕ, zero, suc, ◌+◌, ◌%◌, ◌≤◌, ◌<◌}
+use mathlib.Core.Bool.{true}
+use Prim.Native.Nat.{ℕ, zero, suc, ◌+◌, ◌%◌, ◌<◌}
 use native.Mathlib.Omega.{arith}
-use lib.Bits.{bit_xor}
 use lib.ListN.{length, drop, get_or}
 use lib.Seq.{get_or-append-add, get_or-drop, take-length}
-use Rattle.base.specs.Refusal.{BIT, accepted, unless}
+use Rattle.base.specs.Refusal.{accepted, unless}
 use Rattle.base.specs.Bits.{Bits, bits_only, ERASED, disagrees}
 use Rattle.base.specs.Places.{tabulate, written}
 use Rattle.base.proofs.Lists.{tabulate_length, tabulate_at, tabulate_same, tabulate_of}
 use Rattle.base.proofs.BitLaws.{bit_cases, two_bits, bits_tabulate, bits_at, bits_only_bits}
-use Rattle.base.proofs.Xor.{xor_bit}
 use Rattle.scrambler.specs.Scrambling.{output, scrambled, send_refusal, descrambled_symbol, descrambled}
 use Rattle.scrambler.proofs.Outputs.{output_lt, output_zero}
 
@@ -24,16 +22,7 @@ symbol_bit zero o h k = omega arith
 symbol_bit (suc zero) o h k = refl
 symbol_bit (suc (suc r)) o h k = absurd (omega arith)
 
-pub symbol_xor : (r o : ℕ) → r < 2 → o < 2 → bit_xor r o ≡ descrambled_symbol r o
-symbol_xor r o h k = xor_bit r o h k ∙ sym (symbol_bit r o h k)
-
--- an erasure, whatever its byte, becomes 0xff
-pub symbol_erased : (r o : ℕ) → 2 ≤ r → descrambled_symbol r o ≡ ERASED
-symbol_erased zero o h = absurd (omega arith)
-symbol_erased (suc zero) o h = absurd (omega arith)
-symbol_erased (suc (suc r)) o h = refl
-
--- and stays one
+-- an erasure stays one
 pub erased_stays : (o : ℕ) → descrambled_symbol ERASED o ≡ ERASED
 erased_stays o = refl
 
@@ -104,9 +93,6 @@ descrambled_scrambled x b p =
     ap (descrambled x) (sym (descrambled_bits x b p)) ∙ descrambled_twice x b ∙ descrambled_zero b p
 
 -- ---- the sending form's answers
-pub send_refused : (x : ℕ) (b : List ℕ) → bits_only (length b) b ≡ false → (BIT ≡ send_refusal b) × (b ≡ unless (send_refusal b) (scrambled x b) b)
-send_refused x b e = rw e (refl, refl)
-
 pub send_done : (x : ℕ) (b : List ℕ) → bits_only (length b) b ≡ true
     → (accepted ≡ send_refusal b) × (descrambled x b ≡ unless (send_refusal b) (scrambled x b) b)
 send_done x b e = rw e (refl, descrambled_bits x b (subst Bits (take-length b) (bits_only_bits (length b) b e)))

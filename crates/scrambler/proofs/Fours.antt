@@ -1,16 +1,13 @@
 -- Four symbols at a time.
 -- Assumes nothing.
-use mathlib.Core.Path.{◌≡◌, refl, sym, ap, ap₂, subst, ◌∙◌}
-use mathlib.Core.List.{List, [], ◌∷◌}
-use mathlib.Core.Bool.{Bool}
+use mathlib.Core.Path.{◌≡◌, sym, ap, ap₂, subst, ◌∙◌}
+use mathlib.Core.List.{List, []}
 use Prim.Native.Nat.{ℕ, ◌+◌, ◌*◌, ◌/◌, ◌%◌, ◌^◌, ◌≤◌, ◌<◌}
-use native.Mathlib.Nat.{add-zero}
 use native.Mathlib.Omega.{arith}
 use lib.ListN.{length, get_or, set, length-set}
-use lib.Dec.{eqb, eqb→eq}
 use Rattle.base.specs.Places.{tabulate, written}
 use Rattle.base.proofs.Lists.{tabulate_length, write_more, written_whole}
-use Rattle.base.proofs.Table.{below, at}
+use Rattle.base.proofs.Table.{at}
 use Rattle.scrambler.specs.Scrambling.{output, descrambled_symbol, descrambled}
 use Rattle.scrambler.specs.private.Scrambling.{nexts}
 use Rattle.scrambler.specs.private.Fours.{Spreads, Taken, Begun}
@@ -18,26 +15,10 @@ use Rattle.scrambler.proofs.AtOnce.{low_bit, register_more, register_next, regis
 use Rattle.scrambler.proofs.Blocks.{write_ahead}
 
 -- ---- the table of four bits
-abbrev pub rows : List (List ℕ)
-rows = (0 ∷ 0 ∷ 0 ∷ 0 ∷ []) ∷ (1 ∷ 0 ∷ 0 ∷ 0 ∷ []) ∷ (0 ∷ 1 ∷ 0 ∷ 0 ∷ []) ∷ (1 ∷ 1 ∷ 0 ∷ 0 ∷ []) ∷ (0 ∷ 0 ∷ 1 ∷ 0 ∷ []) ∷ (1 ∷ 0 ∷ 1 ∷ 0 ∷ []) ∷ (0 ∷ 1 ∷ 1 ∷ 0 ∷ []) ∷ (1 ∷ 1 ∷ 1 ∷ 0 ∷ []) ∷ (0 ∷ 0 ∷ 0 ∷ 1 ∷ []) ∷ (1 ∷ 0 ∷ 0 ∷ 1 ∷ []) ∷ (0 ∷ 1 ∷ 0 ∷ 1 ∷ []) ∷ (1 ∷ 1 ∷ 0 ∷ 1 ∷ []) ∷ (0 ∷ 0 ∷ 1 ∷ 1 ∷ []) ∷ (1 ∷ 0 ∷ 1 ∷ 1 ∷ []) ∷ (0 ∷ 1 ∷ 1 ∷ 1 ∷ []) ∷ (1 ∷ 1 ∷ 1 ∷ 1 ∷ []) ∷ []
-
-told : ℕ → ℕ → Bool
-told n e = eqb (get_or (get_or rows n []) e 0) (n / 2 ^ e % 2)
-
-all_told : ℕ → Bool
-all_told n = below (told n) 4
-
-pub rows_spread : Spreads rows
-unfolding told all_told
-rows_spread n e h k = eqb→eq (get_or (get_or rows n []) e 0) (n / 2 ^ e % 2) (at (told n) 4 (at all_told 16 tt n h) e k)
-
 pub spread_bits : (rows : List (List ℕ)) (n e : ℕ) → Spreads rows → e < 4 → get_or (get_or rows (n % 16) []) e 0 ≡ n / 2 ^ e % 2
 spread_bits rows n e s h = s (n % 16) e (omega arith) h ∙ low_bit n 4 e h
 
 -- ---- a symbol more
-pub taken_none : (outputs : List ℕ) (at : ℕ) (b : List ℕ) → Taken outputs 0 at b b
-taken_none outputs at b = (refl, λ f d p l h. p ∙ ap (λ (i : ℕ). written (tabulate f i) d) (sym (add-zero at)))
-
 pub taken_more : (outputs : List ℕ) (k at v : ℕ) (b b' : List ℕ) → k < 4 → at + 4 ≤ length b → Taken outputs k at b b'
     → v ≡ descrambled_symbol (get_or b' (at + k) 0) (get_or outputs k 0) → Taken outputs (k + 1) at b (set b' (at + k) v)
 taken_more outputs k at v b b' h m t e = (length-set b' (at + k) v ∙ t.0, more)
@@ -65,12 +46,6 @@ begun_more x i j lfsr r outputs b b' b'' h k n g p q o t = subst (λ (j : ℕ). 
 
     out : (e : ℕ) → e < 4 → get_or outputs e 0 ≡ output x (i + e)
     out e l = o e l ∙ ap (λ (y : ℕ). y / 2 ^ (i % 32) / 2 ^ e % 2) new ∙ register_outputs x i e h k l
-
--- as far as whole fours go
-pub begun_whole : (x n i r : ℕ) (b b' : List ℕ) → i % 4 ≡ 0 → i ≤ n → n < i + 4 → Begun x i r b b' → Begun x (n / 4 * 4) r b b'
-begun_whole x n i r b b' h l m g =
-    let e : i ≡ n / 4 * 4 = omega arith in
-    subst (λ (i : ℕ). Begun x i r b b') e g
 
 -- what was written is as long as it was, so it is counted by that
 pub begun_long : (x r : ℕ) (b b' : List ℕ) → Begun x (length b / 4 * 4) r b b' → Begun x (length b' / 4 * 4) r b b'

@@ -6,7 +6,7 @@ use mathlib.Core.Bool.{false}
 use Prim.Native.Nat.{ℕ, ◌*◌, ◌≤◌}
 use native.Mathlib.Omega.{arith}
 use borrow.Author.Tests.{le-ltb}
-use lib.ListN.{length, take, drop, replicate, length-append, length-replicate}
+use lib.ListN.{length, take, drop, replicate, length-replicate}
 use lib.Seq.{length-take-le, take_at}
 use Rattle.base.specs.Refusal.{Owed, accepted, unless}
 use Rattle.base.specs.Bits.{Bits}
@@ -17,12 +17,12 @@ use Rattle.base.proofs.Lists.{written_whole}
 use Rattle.base.proofs.Moves.{Onto, gather_length, scatter_length, scatter_over}
 use Rattle.trellis.proofs.Words.{zeros_bits}
 use Rattle.air.proofs.Moved.{gather_bits, scatter_bits}
-use Rattle.puncturing.specs.Puncturing.{kept_place, needed, puncture_refusal, depuncture_refusal, punctured, depunctured}
-use Rattle.puncturing.proofs.Refusing.{puncture_accepts, depuncture_accepts}
+use Rattle.puncturing.specs.Puncturing.{kept_place, needed, puncture_refusal, punctured, depunctured}
+use Rattle.puncturing.proofs.Refusing.{puncture_accepts}
 use Rattle.interleaver.specs.Interleaving.{place, matrix_place, shared, block_refusal, interleaved, deinterleaved, matrix_refusal, matrix_interleaved, matrix_deinterleaved}
 use Rattle.interleaver.proofs.Block.{block_apart, block_within, block_onto}
 use Rattle.interleaver.proofs.Matrix.{matrix_apart, matrix_within, matrix_onto}
-use Rattle.scrambler.specs.Scrambling.{send_refusal, scrambled, descrambled}
+use Rattle.scrambler.specs.Scrambling.{send_refusal, descrambled}
 use Rattle.scrambler.proofs.Blocks.{descrambled_length}
 
 -- ---- where nothing is refused
@@ -53,9 +53,6 @@ module _ (n : ℕ) (part work : List ℕ) (size : length part ≡ n) where
   pub front_length : length (take n (part ++ drop n work)) ≡ n
   front_length = ap length front ∙ size
 
-  pub front_room : n ≤ length (part ++ drop n work)
-  front_room = omega (arith, length-append part (drop n work))
-
 -- ---- one stage each
 pub punctured_whole : (mode : ℕ) (mother coded left : List ℕ) → mode ≤ 6 → length coded ≤ 4096 → needed mode (length coded) ≤ length mother
     → left ≡ unless (puncture_refusal mode (length coded) (length mother) (length coded)) (written (punctured mode (length coded) mother) coded) coded
@@ -63,16 +60,6 @@ pub punctured_whole : (mode : ℕ) (mother coded left : List ℕ) → mode ≤ 6
 punctured_whole mode mother coded left known limit reach =
     whole (puncture_refusal mode (length coded) (length mother) (length coded)) (punctured mode (length coded) mother) coded left
     (puncture_accepts mode (length coded) (length mother) (length coded) known limit reach (omega arith)) (gather_length (kept_place mode) (length coded) mother)
-
-pub depunctured_in : (mode : ℕ) (coded mother left : List ℕ) → mode ≤ 6 → length coded ≤ 4096 → needed mode (length coded) ≤ length mother
-    → left ≡ unless (depuncture_refusal mode (length coded) (length coded) (length mother)) (depunctured mode (length coded) coded mother) mother
-    → left ≡ depunctured mode (length coded) coded mother
-depunctured_in mode coded mother left known limit reach =
-    made (depuncture_refusal mode (length coded) (length coded) (length mother)) (depunctured mode (length coded) coded mother) mother left
-    (depuncture_accepts mode (length coded) (length coded) (length mother) known limit (omega arith) reach)
-
-pub scrambled_here : (start : ℕ) (block left : List ℕ) → Bits block → left ≡ unless (send_refusal block) (scrambled start block) block → left ≡ scrambled start block
-scrambled_here start block left plain = made (send_refusal block) (scrambled start block) block left (scramble_none block plain)
 
 -- places that fill a target leave nothing of it
 filled : (place : ℕ → ℕ) (n : ℕ) (src dst : List ℕ) → Apart place n → Within place n n → Onto place n → length dst ≡ n → scatter place n src dst ≡ scatter place n src (replicate n 0)

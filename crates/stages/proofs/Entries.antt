@@ -27,9 +27,6 @@ received_accepted (Err why) g h c d e = absurd cc
 
 -- ---- sending
 module _ {refusal : ℕ → Owed} {symbols before : List ℕ} where
-  pub sends_refused : (why : Refusal) → refusal (length before) ≡ Err why → SendEntry refusal symbols before (Err why) before
-  sends_refused why e = record { answered = rw e; target = rw e }
-
   pub sends_done : {after : List ℕ} → refusal (length before) ≡ accepted → after ≡ written symbols before → SendEntry refusal symbols before accepted after
   sends_done none w = record { answered = rw none; target = rw none w }
 
@@ -40,9 +37,6 @@ module _ {refusal : ℕ → Owed} {symbols before : List ℕ} where
 
 -- ---- receiving
 module _ (good : Bool) (counts : Counts) {refusal : ℕ → ℕ → Owed} {steps : ℕ} {bits before trellis : List ℕ} where
-  pub receives_refused : (why : Refusal) → refusal (length before) (length trellis) ≡ Err why → ReceiveEntry refusal (λ t s. reception (refusal t s) good counts) bits steps before trellis (Err why) before trellis
-  receives_refused why e = record { answered = rw e; target = rw e; clears = rw e }
-
   module _ {answer : Received} {after trellis' : List ℕ} where
     pub receives_done : refusal (length before) (length trellis) ≡ accepted → (answer ≡ checked good counts) × (after ≡ written bits before) × (trellis' ≡ cleared steps trellis)
         → ReceiveEntry refusal (λ t s. reception (refusal t s) good counts) bits steps before trellis (Ok answer) after trellis'

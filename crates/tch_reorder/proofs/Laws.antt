@@ -6,23 +6,13 @@ use mathlib.Core.Bool.{Bool}
 use Prim.Native.Nat.{ℕ, ◌+◌, ◌-◌, ◌*◌, ◌/◌, ◌%◌, ◌≤◌, ◌<◌}
 use native.Mathlib.Omega.{arith}
 use lib.Dec.{T, ltb, ltb→lt}
-use borrow.Author.Tests.{ltb-false}
 use lib.ListN.{length, get_or, set}
-use Rattle.base.specs.declared.Refusal.TheVariants as refusals
-use Rattle.base.specs.Refusal.{ROOM, accepted, when}
 use Rattle.base.specs.Bits.{both}
 use Rattle.base.specs.Places.{tabulate, written, gather, scatter}
 use Rattle.base.proofs.Lists.{write_more}
 use Rattle.base.proofs.Moves.{scatter_more}
 use Rattle.base.proofs.Table.{at, both_left, both_right}
-use Rattle.tch_reorder.specs.Order.{order, codec_place, reorder_refusal}
-use Rattle.base.proofs.Refusals.{passed}
-
-pub lengths : (src dst : ℕ) → reorder_refusal src dst ≡ accepted → (274 ≤ src) × (274 ≤ dst)
-lengths src dst e =
-    let p = passed (ltb src 274) refusals.Short (when (ltb dst 274) ROOM accepted) e in
-    let q = passed (ltb dst 274) refusals.Room accepted p.1 in
-    (ltb-false src 274 p.0, ltb-false dst 274 q.0)
+use Rattle.tch_reorder.specs.Order.{order, codec_place}
 
 -- ---- a position of the table
 positioned : ℕ → Bool

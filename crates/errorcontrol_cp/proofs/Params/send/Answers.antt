@@ -7,8 +7,7 @@ use lib.ListN.{replicate}
 use Rattle.base.specs.Bits.{Bits}
 use Rattle.puncturing.specs.Puncturing.{needed}
 use Rattle.stages.proofs.Calls.{front, front_length}
-use Rattle.errorcontrol_cp.specs.Sending.{word_of}
-use Rattle.errorcontrol_cp.proofs.Chains.{mother_size, mother_bits, sent_made}
+use Rattle.errorcontrol_cp.proofs.Chains.{mother_size, mother_bits}
 use Rattle.errorcontrol_cp.proofs.Params.send.Goals as goal
 
 work : List ℕ
@@ -26,15 +25,3 @@ put_on_air-requires c =
       subst Bits (sym (front n e.new.mother work size)) (mother_bits a.«data».now e.new.mother e.ensures),
       c.requires.2 ∙ sym b.ensures.1,
     )
-
-pub returns : goal.returns
-unfolding work
-returns c =
-    let a = c.args in
-    let s = a.self in
-    let e = c.encode_word in
-    let b = c.on_air in
-    let size = mother_size a.«data».now e.new.mother e.ensures ∙ ap (λ (x : ℕ). 4 * (x + 20)) c.requires.0 ∙ ap (λ (x : ℕ). 4 * x) (sym s.tail) in
-    c.put_on_air.ensures
-    ∙ sent_made s.word s.air s.step a.start b.result.mode b.result.count b.result.step b.result.start e.new.mother work (word_of a.«data».now)
-    b.ensures.0 b.ensures.1 b.ensures.2 b.ensures.3 size e.ensures

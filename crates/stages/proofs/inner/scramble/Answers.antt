@@ -1,12 +1,7 @@
 use mathlib.Core.Path.{ap, ◌∙◌}
 use Rattle.std.specs.Result.{is_ok}
-use Rattle.stages.proofs.Calls.{scramble_none, scrambled_here}
+use Rattle.stages.proofs.Calls.{scramble_none}
 use Rattle.stages.proofs.inner.scramble.Goals as goal
 
 pub unwrap-requires : goal.unwrap-requires
 unwrap-requires c = ap is_ok (c.tetra_scramb_bits.ensures.0 ∙ scramble_none c.args.block.now c.requires)
-
-pub returns : goal.returns
-returns c =
-    let x = c.tetra_scramb_bits in
-    scrambled_here c.args.start c.args.block.now x.new.block c.requires x.ensures.1
