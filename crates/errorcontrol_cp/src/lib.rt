@@ -5,7 +5,7 @@
 #![tactic(auto)]
 
 ghost use Rattle.std.specs.Prelude.{◌≡◌, true, false, not, ◌+◌, ◌*◌, ◌≤◌, eqb, length, replicate, MatchResult, ltb};
-ghost use Rattle.base.specs.Refusal.{BIT, ROOM, KIND, accepted, when, sized, checked};
+ghost use Rattle.base.specs.Refusal.{BIT, ROOM, accepted, when, sized, checked};
 ghost use Rattle.base.specs.Bits.{bits_only};
 ghost use Rattle.trellis.specs.Nearest.{encode};
 ghost use Rattle.crc16.specs.Crc.{register, OK};
