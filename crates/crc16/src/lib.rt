@@ -34,7 +34,7 @@ fn get_nth_bit(input: &[u8], bit: usize) -> u8
 }
 
 // The register after the first number_bits entries, or after all where there are fewer; each entry counts by its lowest bit.
-// Stays: C passes register, entries and count (caplattice_crc16_itut_bits), and so it does in the two forms below.
+// Stays: C passes register, entries and count (caplattice_crc16_itut_bits), and so it does in the two public forms below.
 pub fn crc16_itut_bits(crc: u16, input: &[u8], number_bits: usize) -> u16
     ensures { result ≡ register crc (take number_bits input.now) }
 {
@@ -60,7 +60,7 @@ pub fn crc16_itut_bytes(crc: u16, input: &[u8], number_bits: usize) -> Result<u1
     ensures { result ≡ valued (bytes_refusal input.now number_bits) (register crc (tabulate (bit_of input.now) number_bits)) }
 {
     // Eight times the length need not fit, so the bytes that are needed are counted instead.
-    let needed = number_bits / 8 + (number_bits % 8 + 7) / 8;
+    let needed = number_bits.div_ceil(8);
     if input.len() < needed {
         return Err(Refusal::Short);
     }
