@@ -9,7 +9,7 @@ use native.Mathlib.Nat.{pow-suc}
 use borrow.Author.Tests.{ltb-true, ltb-false, lt-ltb, le-ltb}
 use lib.Dec.{ltb}
 use lib.ListN.{length, length-append}
-use Rattle.lines.specs.Lines.{counted, judged, line}
+use Rattle.lines.specs.Lines.{counted, judged}
 use Rattle.lines.specs.private.Widths.{SAID, heading}
 use Rattle.lines.specs.Text.{sign, hex, decimal_within, decimal}
 
@@ -85,10 +85,6 @@ judged_length word place contents = simp length-append (omega (arith, hex_length
 pub heading_length : (number kind : ℕ) → length (heading number kind) ≡ length (decimal number) + 1 + 2 + 1
 unfolding heading
 heading_length number kind = simp length-append (omega (arith, hex_length 2 kind))
-
-pub line_length : (number kind : ℕ) (said : List ℕ) → length (line number kind said) ≡ length (heading number kind) + length said + 1
-unfolding line heading
-line_length number kind said = simp length-append
 
 -- a number of 64 bits has at most 20 digits
 pub decimal_most : (n : ℕ) → n < 2 ^ 64 → length (decimal n) ≤ 20

@@ -1,3 +1,4 @@
 -- What only our own contracts need: no reader has to believe it.
 -- Assumes nothing.
 pub mod Parts
+pub mod Words

@@ -1,9 +1,9 @@
 // Shared among our own crates: these ask something of their caller.
-ghost use Rattle.std.specs.Prelude.{◌+◌, ◌*◌, ◌≤◌, ◌<◌, length, take};
+ghost use Rattle.std.specs.Prelude.{◌+◌, ◌*◌, ◌≤◌, ◌<◌, length};
 ghost use Rattle.lines.specs.Lines.{LINE};
 ghost use Rattle.streaming.specs.Limits.{LARGEST};
 ghost use Rattle.reading.specs.Reading.{Takes};
-ghost use Rattle.reading.specs.Asking.{Fits, Room};
+ghost use Rattle.reading.specs.Asking.{Fits};
 ghost use Rattle.reading.specs.private.Parts.{Brings, Finishes};
 
 use crate::{Got, Next, Turn};

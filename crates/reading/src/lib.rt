@@ -7,7 +7,7 @@
 pub mod inner;
 
 ghost use Rattle.std.specs.Prelude.{true, false, ◌≡◌, Some};
-ghost use Rattle.reading.specs.Words.{word_of};
+ghost use Rattle.reading.specs.private.Words.{word_of};
 ghost use Rattle.reading.specs.declared.Next.TheVariants.{Goes};
 ghost use Rattle.reading.specs.Turns.{of_read, meant, bytes_of, has_failed, first, wrote};
 
@@ -51,6 +51,7 @@ pub struct Got {
 
 impl Got {
     // What a read answered that had room for so many bytes; a negative number is a failure.
+    // Stays: docs/PROMISES.md names it, with `meant`.
     pub fn answered(answer: isize, room: usize) -> Got
         ensures { result ≡ meant answer room }
     {

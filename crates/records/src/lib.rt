@@ -103,6 +103,7 @@ impl Reader<'_> {
 }
 
 // One step of a reader, for callers that hold the slice and the place themselves.
+// Stays: docs/DECISIONS.md keeps it beside `step_at` and `next`.
 pub fn take(s: &[u8], at: usize) -> Step
     ensures { result ≡ step_at s.now at }
 {

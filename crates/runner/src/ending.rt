@@ -12,7 +12,7 @@ use std::rt::Env;
 const NAME: usize = 4096;
 
 // The system's numbers for a name that is too long, and for one that is no text, which std cannot open.
-// Stay: no `ErrorKind` has the system's words for them, which standard error shows.
+// Stays: no `ErrorKind` has the system's words for them, which standard error shows.
 const TOO_LONG: i32 = 36;
 
 const NO_TEXT: i32 = 84;

@@ -57,6 +57,7 @@ fn run<R: Read, W: Write>(
     held
 }
 
+// Stays: no `ExitCode`. The exit status is 0 however a run ended, and a file has the word (docs/DECISIONS.md).
 fn main(rt: HostRuntime) {
     let mut buf = [0u8; 65536];
     let mut out = [0u8; 196848];

@@ -1,5 +1,5 @@
 // Reading the input and writing the output. A call that a signal interrupts is made again.
-ghost use Rattle.std.specs.Prelude.{◌≡◌, ◌<◌, ◌≤◌, length, take, is_ok, IfOk};
+ghost use Rattle.std.specs.Prelude.{◌<◌, ◌≤◌, length, is_ok, IfOk};
 ghost use Rattle.std.specs.Io.KnownBytes.{ReadConsumes, WriteAppends};
 ghost use Rattle.runner.specs.private.Transfers.{Reads, Lands};
 

@@ -4,7 +4,7 @@ use mathlib.Core.Path.{◌≡◌, refl, sym, ap, subst, ◌∙◌}
 use mathlib.Core.Bool.{Bool, true, false, cond}
 use mathlib.Core.Logic.{◌⊎◌, inl, inr}
 use mathlib.Core.List.{List, [], ◌++◌, append_assoc, append-nil}
-use Rattle.std.specs.Prelude.{Some, None, Result}
+use Rattle.std.specs.Prelude.{Some, Result}
 use Rattle.base.specs.declared.Refusal.{Refusal}
 use Prim.Native.Nat.{ℕ, ◌+◌, ◌-◌, ◌*◌, ◌≤◌, ◌<◌}
 use native.Mathlib.Omega.{arith}
@@ -23,7 +23,7 @@ use Rattle.lines.specs.Lines.{LINE, answer_text, line}
 use Rattle.lines.specs.private.Placing.{Put}
 use Rattle.lines.proofs.Placing.{put_front}
 use Rattle.streaming.specs.Runner.{State, holding, feed}
-use Rattle.streaming.specs.private.Stepping.{Waits, came_to, Able, Reached, Settled, NextItem}
+use Rattle.streaming.specs.private.Stepping.{came_to, Able, Reached, NextItem}
 use Rattle.streaming.specs.declared.inner.Stepped.{Stepped}
 use Rattle.streaming.proofs.Feeding.{feed_append, over, gathers_whole, gathers_unknown}
 use Rattle.streaming.proofs.Waiting.{head}
@@ -61,13 +61,6 @@ line_of number kind e f g =
 
 -- ---- one item more
 module _ (bytes : List ℕ) (p : Stepped) (old : List ℕ) where
-  -- nothing is taken
-  pub stays : Settled bytes p old → NextItem bytes p old None old
-  stays s count o = record { reached = o; settled = s }
-
-  pub stays_waiting : {i : Item} → item_at bytes p.taken ≡ i → Waits i → NextItem bytes p old None old
-  stays_waiting e w = stays (λ can. subst Waits (sym e) w)
-
   module _ (can : Able p (length old)) where
     -- the definition goes on from where it was
     further :

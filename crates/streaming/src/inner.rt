@@ -1,5 +1,5 @@
 // Shared among our own crates: these ask something of their caller.
-ghost use Rattle.std.specs.Prelude.{true, false, ◌≡◌, ◌+◌, ◌*◌, ◌≤◌, ◌<◌, length, take};
+ghost use Rattle.std.specs.Prelude.{true, false, ◌≡◌, ◌+◌, ◌*◌, ◌≤◌, ◌<◌, length};
 ghost use Rattle.lines.specs.private.Placing.{Put};
 ghost use Rattle.streaming.specs.Limits.{LARGEST};
 ghost use Rattle.streaming.specs.Runner.{closing};
