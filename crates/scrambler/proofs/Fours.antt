@@ -1,13 +1,15 @@
 -- Four symbols at a time.
 -- Assumes nothing.
 use mathlib.Core.Path.{◌≡◌, sym, ap, ap₂, subst, ◌∙◌}
-use mathlib.Core.List.{List, []}
+use mathlib.Core.List.{List, [], ◌∷◌}
+use mathlib.Core.Bool.{Bool}
 use Prim.Native.Nat.{ℕ, ◌+◌, ◌*◌, ◌/◌, ◌%◌, ◌^◌, ◌≤◌, ◌<◌}
 use native.Mathlib.Omega.{arith}
+use lib.Dec.{eqb, eqb→eq}
 use lib.ListN.{length, get_or, set, length-set}
 use Rattle.base.specs.Places.{tabulate, written}
 use Rattle.base.proofs.Lists.{tabulate_length, write_more, written_whole}
-use Rattle.base.proofs.Table.{at}
+use Rattle.base.proofs.Table.{below, at}
 use Rattle.scrambler.specs.Scrambling.{output, descrambled_symbol, descrambled}
 use Rattle.scrambler.specs.private.Scrambling.{nexts}
 use Rattle.scrambler.specs.private.Fours.{Spreads, Taken, Begun}
@@ -15,6 +17,19 @@ use Rattle.scrambler.proofs.AtOnce.{low_bit, register_more, register_next, regis
 use Rattle.scrambler.proofs.Blocks.{write_ahead}
 
 -- ---- the table of four bits
+abbrev pub rows : List (List ℕ)
+rows = (0 ∷ 0 ∷ 0 ∷ 0 ∷ []) ∷ (1 ∷ 0 ∷ 0 ∷ 0 ∷ []) ∷ (0 ∷ 1 ∷ 0 ∷ 0 ∷ []) ∷ (1 ∷ 1 ∷ 0 ∷ 0 ∷ []) ∷ (0 ∷ 0 ∷ 1 ∷ 0 ∷ []) ∷ (1 ∷ 0 ∷ 1 ∷ 0 ∷ []) ∷ (0 ∷ 1 ∷ 1 ∷ 0 ∷ []) ∷ (1 ∷ 1 ∷ 1 ∷ 0 ∷ []) ∷ (0 ∷ 0 ∷ 0 ∷ 1 ∷ []) ∷ (1 ∷ 0 ∷ 0 ∷ 1 ∷ []) ∷ (0 ∷ 1 ∷ 0 ∷ 1 ∷ []) ∷ (1 ∷ 1 ∷ 0 ∷ 1 ∷ []) ∷ (0 ∷ 0 ∷ 1 ∷ 1 ∷ []) ∷ (1 ∷ 0 ∷ 1 ∷ 1 ∷ []) ∷ (0 ∷ 1 ∷ 1 ∷ 1 ∷ []) ∷ (1 ∷ 1 ∷ 1 ∷ 1 ∷ []) ∷ []
+
+told : ℕ → ℕ → Bool
+told n e = eqb (get_or (get_or rows n []) e 0) (n / 2 ^ e % 2)
+
+all_told : ℕ → Bool
+all_told n = below (told n) 4
+
+pub rows_spread : Spreads rows
+unfolding told all_told
+rows_spread n e h k = eqb→eq (get_or (get_or rows n []) e 0) (n / 2 ^ e % 2) (at (told n) 4 (at all_told 16 tt n h) e k)
+
 pub spread_bits : (rows : List (List ℕ)) (n e : ℕ) → Spreads rows → e < 4 → get_or (get_or rows (n % 16) []) e 0 ≡ n / 2 ^ e % 2
 spread_bits rows n e s h = s (n % 16) e (omega arith) h ∙ low_bit n 4 e h
 
