@@ -5,8 +5,10 @@ use mathlib.Core.List.{List, [], ◌∷◌, ◌++◌}
 use Prim.Native.Nat.{ℕ, ◌+◌, ◌*◌, ◌/◌, ◌%◌, ◌<◌}
 use native.Mathlib.Omega.{arith}
 use lib.Bits.{xor_lt}
+use lib.ListN.{length, take, get_or}
+use lib.Seq.{take-suc}
+use native.Mathlib.Numerals.{add-one}
 use Rattle.base.proofs.Lists.{tabulate_more}
-use Rattle.std.specs.List.{fold}
 use Rattle.base.specs.Places.{tabulate}
 use Rattle.crc16.specs.Crc.{GENERATOR, step, register, bit_of}
 
@@ -36,13 +38,13 @@ pub register_more : (reg : ℕ) (a : List ℕ) (b : ℕ) → register reg (a ++ 
 unfolding register
 register_more reg a b = register_append reg a (b ∷ [])
 
--- the same in std's word
-pub folded : (reg : ℕ) (bs : List ℕ) → register reg bs ≡ fold step reg bs
-unfolding register
-folded reg [] = refl
-folded reg (b ∷ bs) = folded (step reg b) bs
-
 -- ---- a turn of the loops
+pub entry_more : (crc reg r i : ℕ) (s : List ℕ) → i < length s → reg ≡ register crc (take i s) → r ≡ step reg (get_or s i 0)
+    → r ≡ register crc (take (i + 1) s)
+entry_more crc reg r i s h p q =
+    q ∙ ap (λ (x : ℕ). step x (get_or s i 0)) p ∙ sym (register_more crc (take i s) (get_or s i 0))
+    ∙ ap (register crc) (sym (rw (add-one, take-suc s i 0)))
+
 pub packed_more : (crc reg r i b : ℕ) (s : List ℕ) → reg ≡ register crc (tabulate (bit_of s) i) → b ≡ bit_of s i → r ≡ step reg b
     → r ≡ register crc (tabulate (bit_of s) (i + 1))
 packed_more crc reg r i b s p o q =

@@ -39,7 +39,11 @@ pub fn crc16_itut_bits(crc: u16, input: &[u8], number_bits: usize) -> u16
     ensures { result ≡ register crc (take number_bits input.now) }
 {
     let bits = &input[..number_bits.min(input.len())];
-    bits.iter().fold(crc, |reg, b| add_bit(reg, *b))
+    let mut reg = crc;
+    for bit in bits {
+        reg = add_bit(reg, *bit);
+    }
+    reg
 }
 
 // The register after the first number_bits bits of packed bytes that hold as many.
