@@ -8,8 +8,8 @@ use native.Mathlib.Numerals.{add-one}
 use native.Mathlib.Omega.{arith}
 use lib.Dec.{ltb}
 use borrow.Author.Tests.{ltb-true, ltb-false}
-use lib.ListN.{length, take, drop, get_or, set, length-append, length-drop, get_or-append}
-use lib.Seq.{length-take-le, get_or-take, drop-cons, set_at, drop-length, ext_get_or, get_or-append-add}
+use lib.ListN.{length, drop, get_or, set, length-append, length-drop, get_or-append}
+use lib.Seq.{drop-cons, set_at, drop-length, ext_get_or, get_or-append-add}
 use Rattle.base.specs.Places.{tabulate, written}
 
 pub tabulate_length : (f : ℕ → ℕ) (n : ℕ) → length (tabulate f n) ≡ n
@@ -65,10 +65,6 @@ written_more new d x n e h =
 pub write_more : (f : ℕ → ℕ) (i : ℕ) (d : List ℕ) → i < length d → set (written (tabulate f i) d) i (f i) ≡ written (tabulate f (i + 1)) d
 write_more f i d h = written_more (tabulate f i) d (f i) i (tabulate_length f i) h ∙ ap (λ (l : List ℕ). written l d) (sym (tabulate_more f i))
 
-pub write_length : (f : ℕ → ℕ) (i : ℕ) (d : List ℕ) → i ≤ length d → length (written (tabulate f i) d) ≡ length d
-write_length f i d h =
-    omega (arith, length-append (tabulate f i) (drop (length (tabulate f i)) d), length-drop (length (tabulate f i)) d, tabulate_length f i)
-
 -- ---- what is written
 pub written_length : (new old : List ℕ) → length new ≤ length old → length (written new old) ≡ length old
 written_length new old h = omega (arith, length-append new (drop (length new) old), length-drop (length new) old)
@@ -77,11 +73,3 @@ written_length new old h = omega (arith, length-append new (drop (length new) ol
 pub written_whole : (new old : List ℕ) → length new ≡ length old → written new old ≡ new
 written_whole new old e =
     ap (λ (l : List ℕ). new ++ l) (ap (λ (k : ℕ). drop k old) e ∙ drop-length old) ∙ append-nil new
-
--- a whole target with the source's entries
-pub copied : (source target : List ℕ) → length target ≤ length source
-    → written (tabulate (λ j. get_or source j 0) (length target)) target ≡ take (length target) source
-copied source target h =
-    written_whole (tabulate (λ j. get_or source j 0) (length target)) target (tabulate_length (λ j. get_or source j 0) (length target))
-    ∙ sym (tabulate_of (take (length target) source) (λ j. get_or source j 0) (length target) (length-take-le (length target) source h)
-    (λ i k. get_or-take (length target) source i 0 k))

@@ -1,36 +1,21 @@
 -- What an entry answers and leaves, from what it owes; what no refusal says of each test; and that none has the retired number.
 -- Assumes nothing.
-use mathlib.Core.Path.{◌≡◌, refl, ap, sym, ◌∙◌}
+use mathlib.Core.Path.{◌≡◌, refl}
 use mathlib.Core.Bool.{Bool, true, false}
 use native.Mathlib.Omega.{arith}
 use Rattle.std.specs.Prelude.{Ok, Err}
 use Rattle.base.specs.declared.Refusal.{Refusal}
 use Rattle.base.specs.declared.Refusal.TheVariants as refusals
-use Rattle.base.specs.Refusal.{Owed, number, RETIRED, Current, accepted, when, unless, valued}
-
--- a refusal gives its reason and leaves the target
-pub refused : {A : Type 0} (refusal : Owed) (why : Refusal) (made kept : A) → refusal ≡ Err why → (Err why ≡ refusal) × (kept ≡ unless refusal made kept)
-refused refusal why made kept e = rw e (refl, refl)
+use Rattle.base.specs.Refusal.{Owed, number, RETIRED, Current, accepted, when, unless}
 
 -- an entry that does not refuse is done, and leaves what it made
 pub done : {A : Type 0} (refusal : Owed) (made kept left : A) → refusal ≡ accepted → left ≡ made → (accepted ≡ refusal) × (left ≡ unless refusal made kept)
 done refusal made kept left e was = rw e (refl, was)
 
--- the same two for an entry that has a value
-pub value_refused : {A : Type 0} (refusal : Owed) (why : Refusal) (value : A) → refusal ≡ Err why → Err why ≡ valued refusal value
-value_refused refusal why value e = rw e refl
-
-pub value_done : {A : Type 0} (refusal : Owed) (value own : A) → refusal ≡ accepted → own ≡ value → Ok own ≡ valued refusal value
-value_done refusal value own e was = rw e (ap Ok was)
-
 -- where nothing is refused the first test failed, and the later ones refuse nothing
 pub passed : (test : Bool) (why : Refusal) (later : Owed) → when test (Err why) later ≡ accepted → (test ≡ false) × (later ≡ accepted)
 passed true why later e = absurd cc
 passed false why later e = (refl, e)
-
--- nothing is refused and something is, not both
-pub not_both : {A : Type 0} {refusal : Owed} {why : Refusal} → refusal ≡ accepted → refusal ≡ Err why → A
-not_both {why = why} e f = let both : accepted ≡ Err why = sym e ∙ f in absurd cc
 
 -- ---- the retired number
 number_current : (refusal : Refusal) → number refusal ≡ RETIRED → ⊥
