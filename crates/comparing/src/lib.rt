@@ -3,7 +3,7 @@
 // their own. A caller gets how many entries matched, or None where some entry differs; erasures of the depunctured word are skipped.
 #![tactic(auto)]
 
-ghost use Rattle.std.specs.Prelude.{◌≡◌, ◌≤◌, length, ltb};
+ghost use Rattle.std.specs.Prelude.{◌≡◌, ◌≤◌, length};
 ghost use Rattle.comparing.specs.Comparing.{compare};
 ghost use Rattle.comparing.specs.private.Gathering.{counts, difference, unerased, differing};
 // 1 for an entry that is compared, 0 for an erasure.
@@ -43,16 +43,14 @@ fn unerased_among(s: &[u8]) -> usize
     found
 }
 
-// Whether some entries of two words of one length differ.
-fn differ(mother: &[u8], depunct: &[u8]) -> bool
-    requires { length mother.now ≡ length depunct.now }
-    ensures { result ≡ ltb 0 (differing (length depunct.now) mother.now depunct.now) }
+// 1 where some entries of two words differ, up to the shorter length, and 0 where none does: bytes, so that the loop is vectorized.
+fn differing(mother: &[u8], depunct: &[u8]) -> u8
+    ensures { result ≡ differing mother.now depunct.now }
 {
-    let mut found: u8 = 0;
-    for i in 0..depunct.len() {
-        found |= difference(mother[i], depunct[i]);
-    }
-    0 < found
+    mother
+        .iter()
+        .zip(depunct)
+        .fold(0, |found, (m, d)| found | difference(*m, *d))
 }
 
 // A mother word against a depunctured one, up to the shorter length. Entries 0xff of the depunctured one are skipped.
@@ -60,7 +58,7 @@ pub fn mother_memcmp(mother: &[u8], depunct: &[u8]) -> Option<usize>
     ensures { result ≡ compare mother.now depunct.now }
 {
     let n = mother.len().min(depunct.len());
-    if differ(&mother[..n], &depunct[..n]) {
+    if differing(mother, depunct) != 0 {
         return None;
     }
     Some(unerased_among(&depunct[..n]))

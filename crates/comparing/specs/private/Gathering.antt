@@ -1,6 +1,7 @@
 -- What the code gathers of two words before it answers how they compare. No promise to a caller needs this file.
 -- Assumes nothing.
-use Rattle.std.specs.Prelude.{List, [], ◌∷◌, Bool, true, false, ℕ, zero, suc, ◌+◌, eqb, get_or}
+use Rattle.std.specs.Prelude.{List, [], ◌∷◌, Bool, true, false, ℕ, ◌+◌, eqb}
+use Rattle.std.specs.List.{fold, zip}
 use Rattle.std.specs.Int.Bits.{bit_or}
 use Rattle.base.specs.Bits.{ERASED}
 
@@ -25,7 +26,6 @@ unfoldable pub unerased : List ℕ → ℕ
 unerased [] = 0
 unerased (d ∷ ds) = counts d + unerased ds
 
--- 1 where some of the first n entries differ
-unfoldable pub differing : ℕ → List ℕ → List ℕ → ℕ
-differing zero ms ds = 0
-differing (suc n) ms ds = bit_or (differing n ms ds) (difference (get_or ms n 0) (get_or ds n 0))
+-- 1 where some entries differ, up to the shorter length
+abbrev pub differing : List ℕ → List ℕ → ℕ
+differing ms ds = fold (λ found pair. bit_or found (difference pair.0 pair.1)) 0 (zip ms ds)
