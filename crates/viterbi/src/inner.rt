@@ -241,17 +241,18 @@ pub fn refusal(
     Ok(())
 }
 
+// A code goes by value: of one that is lent the rate is read again at each step, and the decoders are slower by a fifth.
 impl Code {
     // The branch scores of the step whose symbols begin at a place, by the rows of the four generators.
     fn branches(
-        &self,
+        self,
         rows: &[[[i16; 16]; 3]; 4],
         classes: &[u8; 256],
         source: &[u8],
         at: usize,
     ) -> [i16; 16]
-        requires { ((j : ℕ) → j < 4 → Rows (get_or self.now.expected j []) (get_or rows.now j [])) × Classes classes.now × (at + self.now.rate ≤ length source.now) }
-        ensures { Holds (branch_of self.now.expected self.now.rate source.now at) result }
+        requires { ((j : ℕ) → j < 4 → Rows (get_or self.expected j []) (get_or rows.now j [])) × Classes classes.now × (at + self.rate ≤ length source.now) }
+        ensures { Holds (branch_of self.expected self.rate source.now at) result }
     {
         let p = class(classes, source[at]);
         let q = class(classes, source[at + 1]);
@@ -262,9 +263,9 @@ impl Code {
 
     // The pass over as many steps as the trellis has entries: the scores after them, and the choices at each in the trellis. The walk
     // back over these choices from state 0 ends in state 0, so nobody has to look where it ends.
-    fn forward(&self, source: &[u8], trellis: &mut [u16]) -> Scores
-        requires { (length trellis.old ≤ 864) × (self.now.rate * length trellis.old ≤ length source.now) }
-        ensures { Forward self.now.rate self.now.expected source.now (length trellis.old) result.m trellis.old trellis.new
+    fn forward(self, source: &[u8], trellis: &mut [u16]) -> Scores
+        requires { (length trellis.old ≤ 864) × (self.rate * length trellis.old ≤ length source.now) }
+        ensures { Forward self.rate self.expected source.now (length trellis.old) result.m trellis.old trellis.new
             × (walk_end trellis.new (length trellis.old) 0 ≡ 0) }
     {
         let classes = symbol_classes();
@@ -285,9 +286,9 @@ impl Code {
     }
 
     // The decoder where nothing is refused: the disagreements of the word that it writes, a bit for each step.
-    fn run(&self, source: &[u8], target: &mut [u8], trellis: &mut [u16]) -> usize
-        requires { (length trellis.old ≤ 864) × (length source.now ≡ self.now.rate * length trellis.old) × (length target.old ≡ length trellis.old) }
-        ensures { (code : List (List ℕ)) → Tells code self.now.rate self.now.expected
+    fn run(self, source: &[u8], target: &mut [u8], trellis: &mut [u16]) -> usize
+        requires { (length trellis.old ≤ 864) × (length source.now ≡ self.rate * length trellis.old) × (length target.old ≡ length trellis.old) }
+        ensures { (code : List (List ℕ)) → Tells code self.rate self.expected
             → Finds code (length trellis.old) source.now target.old target.new trellis.old trellis.new result }
     {
         let scores = self.forward(source, trellis);

@@ -7,7 +7,7 @@ use Rattle.viterbi.proofs.inner.Code.branches.Goals as goal
 
 pub sums-requires : goal.sums-requires
 sums-requires c =
-    let code = c.args.self.now in
+    let code = c.args.self in
     let t = code.expected in
     let rows = c.requires.0 in
     let trit = table_trit code.rate t code.table in (
@@ -20,7 +20,7 @@ sums-requires c =
 pub returns : goal.returns
 returns c s h =
     let a = c.args in
-    let code = a.self.now in
+    let code = a.self in
     let rows = c.requires.0 in
     let p = c.class-p in
     let q = c.class-q in

@@ -12,13 +12,13 @@ use Rattle.viterbi.proofs.inner.Code.forward.Goals as goal
 pub loop-i-init : goal.loop-i-init
 loop-i-init c =
     let a = c.args in
-    let code = a.self.now in
+    let code = a.self in
     forward_none code.rate code.expected code.table a.source.now a.trellis.now
 
 pub advance-turn-requires : goal.advance-turn-requires
 advance-turn-requires c =
     let a = c.args in
-    let code = a.self.now in
+    let code = a.self in
     let l = c.loop-i in
     let room = step_room code.rate l.i (length a.trellis.now) (length a.source.now) c.loop-i-test.true c.requires.1 in (
       λ s h. omega (arith, scores_small code.rate code.expected code.table a.source.now l.i l.scores.m a.trellis.now l.trellis (omega (arith, c.loop-i-test.true, c.requires.0)) (omega (arith, room)) l.invariant s h),
@@ -28,7 +28,7 @@ advance-turn-requires c =
 pub loop-i-preserved : goal.loop-i-preserved
 loop-i-preserved c =
     let a = c.args in
-    let code = a.self.now in
+    let code = a.self in
     let l = c.loop-i in
     let t = c.advance-turn in
     let room = step_room code.rate l.i (length a.trellis.now) (length a.source.now) c.loop-i-test.true c.requires.1 in
@@ -38,7 +38,7 @@ loop-i-preserved c =
 pub returns : goal.returns
 returns c =
     let a = c.args in
-    let code = a.self.now in
+    let code = a.self in
     let l = c.loop-i in
     let n : ℕ = length a.trellis.now in
     let e : l.i ≡ n = omega (arith, c.loop-i.auto, c.loop-i-test.false) in

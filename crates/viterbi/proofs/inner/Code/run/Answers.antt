@@ -12,7 +12,7 @@ use Rattle.viterbi.proofs.inner.Code.run.Goals as goal
 pub cost-requires : goal.cost-requires
 cost-requires c =
     let a = c.args in
-    let code = a.self.now in
+    let code = a.self in
     let n : ℕ = length a.trellis.now in
     let f = c.forward-scores in
     let b = c.back in
@@ -24,7 +24,7 @@ cost-requires c =
 pub returns : goal.returns
 returns c code tells =
     let a = c.args in
-    let own = a.self.now in
+    let own = a.self in
     let n : ℕ = length a.trellis.now in
     let f = c.forward-scores in
     let b = c.back in
