@@ -112,6 +112,7 @@ pub type ConvEncState = Encoder<Control>;
 pub type SpeechConvEncState = Encoder<Speech>;
 
 // What an encoder answers, and the encoder to go on from.
+// Stays: the answer stands beside the encoder, since a refusal hands the encoder back as it was (`Encoded`).
 #[derive(Clone, Copy)]
 pub struct Coded<E> {
     pub outcome: Result<(), Refusal>,

@@ -35,6 +35,7 @@ fn get_nth_bit(input: &[u8], bit: usize) -> u8
 
 // The register after the first number_bits entries, or after all where there are fewer; each entry counts by its lowest bit.
 // Stays: C passes register, entries and count (caplattice_crc16_itut_bits), and so it does in the two public forms below.
+// A loop, since a fold over a closure takes twice as long.
 pub fn crc16_itut_bits(crc: u16, input: &[u8], number_bits: usize) -> u16
     ensures { result ≡ register crc (take number_bits input.now) }
 {

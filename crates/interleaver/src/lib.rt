@@ -163,6 +163,7 @@ fn matrix_refusal(lines: usize, columns: usize, source: usize, target: usize) ->
 }
 
 // Entries by lines: entry i of a line stands at line columns + i.
+// Stays: what its methods ask is no invariant of it, since `MatrixFits` says as much of the two lent slices as of the sides.
 #[derive(Clone, Copy)]
 struct Grid {
     lines: usize,

@@ -12,6 +12,7 @@ pub const START_BYTES: usize = 4;
 
 // What stands at a place: a whole record, with its kind and the place of its kind byte; a kind that
 // is not known; a record whose body is cut by the end; or the end.
+// Stays: a kind is the byte of the recording, known or not, as the lines say it.
 #[derive(Clone, Copy)]
 pub enum Item {
     Whole { kind: u8, place: usize },

@@ -113,6 +113,7 @@ fn told<P: Print>(out: &P, r: Turn, at: usize, equal: u64) -> u64 {
     equal
 }
 
+// Stays: records differ in length, so no `for` goes from one to the next.
 fn all<P: Print>(out: &P, list: &[u8]) {
     let mut equal: u64 = 0;
     let mut at: usize = 0;
@@ -130,6 +131,7 @@ fn list_room() -> [u8; 393216]
     [0u8; 393216]
 }
 
+// Stays: how far a read goes is up to the read.
 // Reads until the list is full, the input ends or a read fails, and returns how many bytes it put at the list's front.
 fn read_full<R: Read>(input: &mut R, list: &mut [u8]) -> usize
     ensures { result ≤ length list.new }
