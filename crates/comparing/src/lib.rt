@@ -1,6 +1,6 @@
 // The comparison of a mother word with a depunctured one.
-// Ported from lmac/components/convenc.rs; changed: the answer is an Option; what differs and what matched are gathered in loops of
-// their own. A caller gets how many entries matched, or None where some entry differs; erasures of the depunctured word are skipped.
+// Ported from lmac/components/convenc.rs; changed: the answer is an Option; what differs and what matched are gathered apart.
+// A caller gets how many entries matched, or None where some entry differs; erasures of the depunctured word are skipped.
 #![tactic(auto)]
 
 ghost use Rattle.std.specs.Prelude.{◌≡◌, ◌≤◌, length};
@@ -43,7 +43,8 @@ fn unerased_among(s: &[u8]) -> usize
     found
 }
 
-// 1 where some entries of two words differ, up to the shorter length, and 0 where none does: bytes, so that the loop is vectorized.
+// 1 where some entries of two words differ, up to the shorter length, and 0 where none does.
+// Stays: 0 or 1 in a byte, here and above, so that all entries are gone through at once as bytes.
 fn differing(mother: &[u8], depunct: &[u8]) -> u8
     ensures { result ≡ differing mother.now depunct.now }
 {
