@@ -16,11 +16,19 @@ ghost use Rattle.errorcontrol_tp.specs.Sending.{send_refusal, on_air, slot, Send
 ghost use Rattle.errorcontrol_tp.specs.Receiving.{receive_refusal, block_of, mother_of, read_bit, good, Receives};
 ghost use Rattle.errorcontrol_tp.specs.private.Settling.{HeardOf};
 
+use base::inner::sized;
 use base::{Counts, Received, Refusal};
 use stages::inner::Matrix;
 
+// The puncturing modes of the two classes, 112_168 and 72_162.
+// Stays: a mode is the number that puncturing looks its tables up by (docs/DECISIONS.md, "puncturing mode and kind").
+const CLASS1: u8 = 4;
+
+const CLASS2: u8 = 5;
+
 // ---- sending
 
+// Stays: the tests of `sized`, written out: behind its `?` it was not proved that 274 entries are there.
 fn send_refusal(count: usize, codec: &[u8], air: usize) -> Result<(), Refusal>
     ensures { result ≡ send_refusal count codec.now air }
 {
@@ -80,12 +88,13 @@ fn block_bits(channel: [u8; 274], mothers: Mothers) -> [u8; 432]
 {
     let mut block = [0u8; 432];
     block[0..102].copy_from_slice(&channel[0..102]);
-    stages::inner::puncture(4, &mothers.first, &mut block[102..270]);
-    stages::inner::puncture(5, &mothers.second, &mut block[270..432]);
+    stages::inner::puncture(CLASS1, &mothers.first, &mut block[102..270]);
+    stages::inner::puncture(CLASS2, &mothers.second, &mut block[270..432]);
     block
 }
 
-// Stays: put_on_air and take_off_air are apart, since each calls its own method of the matrix, the other's inverse.
+// Stays: put_on_air and take_off_air are apart, since each calls its own method of the matrix, the other's inverse; each writes the
+// matrix out, since the prover then knows its sides as numbers.
 // A block through the matrix of 24 lines and 18 columns, scrambled.
 fn put_on_air(start: u32, block: [u8; 432]) -> [u8; 432]
     requires { Bits block }
@@ -142,12 +151,7 @@ pub fn encode_tp_half(start: u32, codec: &[u8], air: &mut [u8]) -> Result<(), Re
 fn receive_refusal(count: usize, air: usize, codec: usize, trellis: usize) -> Result<(), Refusal>
     ensures { result ≡ receive_refusal count air codec trellis }
 {
-    if air < count {
-        return Err(Refusal::Short);
-    }
-    if codec < 274 {
-        return Err(Refusal::Room);
-    }
+    sized(air, count, codec, 274)?;
     if trellis < 184 {
         return Err(Refusal::Room);
     }
@@ -173,8 +177,8 @@ fn mother_symbols(block: [u8; 432]) -> [u8; 552]
     ensures { result ≡ mother_of block }
 {
     let mut mother = [0xffu8; 552];
-    stages::inner::depuncture(4, &block[102..270], &mut mother[0..336]);
-    stages::inner::depuncture(5, &block[270..432], &mut mother[336..552]);
+    stages::inner::depuncture(CLASS1, &block[102..270], &mut mother[0..336]);
+    stages::inner::depuncture(CLASS2, &block[270..432], &mut mother[336..552]);
     mother
 }
 
