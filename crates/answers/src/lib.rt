@@ -56,6 +56,7 @@ fn control(kind: u8, start: u32, air: &[u8]) -> Result<Received, Refusal>
     errorcontrol_cp::decode_cp(kind, start, air, &mut word, &mut trellis)
 }
 
+// Stays: slot and half call two entries, since the C interface has decode_tp and decode_tp_half apart.
 fn slot(start: u32, air: &[u8]) -> Result<Received, Refusal>
     ensures { result ≡ speech_answer 432 start air.now }
 {
@@ -89,7 +90,7 @@ fn decode(kind: u8, start: u32, air: &[u8]) -> Result<Answer, Refusal>
 pub fn answer_to(kind: u8, body: &[u8]) -> Result<Answer, Refusal>
     ensures { result ≡ answer_of kind body.now }
 {
-    let Some(_) = records::symbols(kind) else {
+    let Some(_) = records::length_of(kind) else {
         return Err(Refusal::Kind);
     };
     if body.len() < START_BYTES {

@@ -23,6 +23,7 @@ pub enum Said {
 }
 
 // A line as far as it is written, with room for the longest.
+// Stays: an array with a length, since the project has no heap (docs/DECISIONS.md).
 #[derive(Drop)]
 pub struct Line {
     text: [u8; LINE],

@@ -62,11 +62,8 @@ impl Got {
     pub fn read(bytes: Option<usize>, room: usize) -> Got
         ensures { result ≡ of_read bytes room }
     {
-        match bytes {
-            Some(n) => Got {
-                bytes: Some(n.min(room)),
-            },
-            None => Got { bytes: None },
+        Got {
+            bytes: bytes.map(|n| n.min(room)),
         }
     }
 

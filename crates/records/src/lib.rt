@@ -30,7 +30,7 @@ pub struct Step {
 
 // How many symbols a record of the kind has, where the kind is known.
 #[tactic(auto, using(crate::proofs::Laws::symbols_none), unfolding(crate::specs::Kinds::symbols_of))]
-pub fn symbols(kind: u8) -> Option<usize>
+pub fn length_of(kind: u8) -> Option<usize>
     ensures { MatchOption result (symbols_of kind ≡ 0) (λ count. (count ≡ symbols_of kind) × (0 < count)) }
 {
     match kind {
@@ -45,6 +45,14 @@ pub fn symbols(kind: u8) -> Option<usize>
     }
 }
 
+// How many symbols a record of the kind has; 0 for a kind that is not known.
+// Stays: it could not fail, and docs/PROMISES.md names it; length_of is for our own callers.
+pub fn symbols(kind: u8) -> usize
+    ensures { result ≡ symbols_of kind }
+{
+    length_of(kind).unwrap_or(0)
+}
+
 // What stands at a place of a recording, and the next place.
 pub fn step_at(s: &[u8], at: usize) -> Step
     ensures { result ≡ step_at s.now at }
@@ -56,7 +64,7 @@ pub fn step_at(s: &[u8], at: usize) -> Step
         };
     }
     let kind = s[at];
-    let Some(count) = symbols(kind) else {
+    let Some(count) = length_of(kind) else {
         return Step {
             item: Item::Unknown(kind),
             at,

@@ -31,9 +31,20 @@ pub struct Head {
     pub zeroed: usize,
 }
 
-// Eight bytes as one number.
-fn number(bytes: &[u8]) -> u64 {
-    bytes.iter().fold(0, |n, byte| (n << 8) | *byte as u64)
+// The eight bytes from a place on as one number.
+fn number(s: &[u8], at: usize) -> u64
+    requires { at + 8 ≤ length s.now }
+{
+    u64::from_be_bytes([
+        s[at],
+        s[at + 1],
+        s[at + 2],
+        s[at + 3],
+        s[at + 4],
+        s[at + 5],
+        s[at + 6],
+        s[at + 7],
+    ])
 }
 
 // The two bytes from a place on as one number.
@@ -67,12 +78,12 @@ impl Head {
         ensures written_bound { result.written ≤ 65535 }
     {
         Head {
-            request: Request::new(s[0], number(&s[1..9]), number(&s[9..17]), s[18]),
+            request: Request::new(s[0], number(s, 1), number(s, 9), s[18]),
             source: count(s, 19),
             target: count(s, 21),
             seed: s[23],
             trellis: count(s, 24),
-            answer: number(&s[26..34]),
+            answer: number(s, 26),
             written: count(s, 34),
             zeroed: count(s, 36),
         }
