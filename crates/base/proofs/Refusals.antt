@@ -5,7 +5,6 @@ use mathlib.Core.Bool.{Bool, true, false}
 use native.Mathlib.Omega.{arith}
 use Rattle.std.specs.Prelude.{Ok, Err}
 use Rattle.base.specs.declared.Refusal.{Refusal}
-use Rattle.base.specs.declared.Refusal.TheVariants as refusals
 use Rattle.base.specs.Refusal.{Owed, number, RETIRED, Current, accepted, when, unless}
 
 -- an entry that does not refuse is done, and leaves what it made
@@ -19,14 +18,7 @@ passed false why later e = (refl, e)
 
 -- ---- the retired number
 number_current : (refusal : Refusal) → number refusal ≡ RETIRED → ⊥
-number_current refusals.Limit e = omega arith
-number_current refusals.Short e = omega arith
-number_current refusals.Room e = omega arith
-number_current refusals.Bit e = omega arith
-number_current refusals.Shuffle e = omega arith
-number_current refusals.Word e = omega arith
-number_current refusals.Field e = omega arith
-number_current refusals.Kind e = omega arith
+number_current refusal e = grind arith
 
 -- whatever an entry owes, its number is in use
 pub in_use : (refusal : Owed) → Current refusal

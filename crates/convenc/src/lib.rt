@@ -4,37 +4,20 @@
 // A caller gets the whole output or, beside a refusal, nothing written and the encoder as it was.
 #![tactic(auto)]
 
-ghost use Rattle.std.specs.Prelude.{◌≡◌, List, ℕ, [], ◌∷◌, ◌+◌, ◌*◌, ◌≤◌, length, take};
-ghost use Rattle.std.proofs.lemmas.List.Edits.{sets};
+ghost use Rattle.std.specs.Prelude.{◌≡◌, [], ◌∷◌, ◌*◌, ◌≤◌, length, take};
 ghost use Rattle.base.specs.Refusal.{accepted};
 ghost use Rattle.base.specs.Places.{written};
 ghost use Rattle.trellis.specs.Nearest.{encode};
 ghost use Rattle.base.specs.Digits.{number};
 ghost use Rattle.convenc.specs.Generators.{control, control_third, speech, outputs, delays, encode_refusal, Encoded};
-ghost use Rattle.convenc.specs.private.Tapping.{CodeLaws, taps, newest, GoesOn};
+ghost use Rattle.convenc.specs.private.Tapping.{newest, GoesOn};
 ghost use Rattle.convenc.specs.private.Codes.{control_laws, control_third_laws, speech_laws};
 
 use base::Refusal;
+use inner::Code;
 use std::marker::PhantomData;
 
 pub mod inner;
-
-// A mother code: what it makes of a bit and the four bits before it.
-pub trait Code: Copy {
-    ghost generators: { List (List ℕ) };
-
-    // How many entries it makes of a bit.
-    const RATE: usize;
-
-    ghost RATE: { ℕ };
-
-    // The outputs of one bit, from place at on. The delays are the four bits before it, the newest first.
-    fn outputs(at: usize, bit: u8, delayed: &[u8; 4], output: &mut [u8])
-        requires { at + length generators ≤ length output.old }
-        ensures { output.new ≡ sets output.old at (taps generators bit delayed.now) };
-
-    ghost laws: { CodeLaws RATE generators };
-}
 
 // The control code.
 #[derive(Clone, Copy)]

@@ -155,9 +155,6 @@ module _ (block p q : List ℕ) (long : length block ≡ 432)
   pub symbols_long : length p ≡ 336
   symbols_long = ap length symbols_first ∙ scatter_length (kept_place 4) 168 (take 168 (drop 102 block)) (replicate 336 ERASED)
 
-  pub symbols_room : length (p ++ replicate 216 ERASED) ≡ 552
-  symbols_room = length-append p (replicate 216 ERASED) ∙ ap (λ (n : ℕ). n + 216) symbols_long
-
   abbrev spare : List ℕ
   spare = take 216 (drop 336 (p ++ replicate 216 ERASED))
 
@@ -255,20 +252,20 @@ heard_of block mother blank word trellis trellis' value m room does = (
 )
 
 -- what is heard and delivered of a slot is what its entry owes
-pub received_slot : (count start : ℕ) (air slot codec trellis : List ℕ) (heard : Heard) (answer : Received) (codec' trellis' : List ℕ)
-    → receive_refusal count (length air) (length codec) (length trellis) ≡ accepted → slot ≡ slot_of count air
-    → HeardOf (block_of start slot) trellis trellis' heard → answer ≡ checked (good heard.word) (record { disagreements = heard.disagreements })
-    → codec' ≡ codec_of (map read_bit (take 102 heard.block) ++ take 172 heard.word) codec
+pub received_slot : (count start : ℕ) (air slot block codec trellis : List ℕ) (heard : Heard) (answer : Received) (codec' trellis' : List ℕ)
+    → receive_refusal count (length air) (length codec) (length trellis) ≡ accepted → slot ≡ slot_of count air → block ≡ block_of start slot
+    → HeardOf block trellis trellis' heard → answer ≡ checked (good heard.word) (record { disagreements = heard.disagreements })
+    → codec' ≡ codec_of (map read_bit (take 102 block) ++ take 172 heard.word) codec
     → Receives count start air codec trellis (Ok answer) codec' trellis'
 unfolding word_from counts_of codec_bits
-received_slot count start air slot codec trellis heard answer codec' trellis' none is f a l =
-    let block : heard.block ≡ block_of start (slot_of count air) = f.block_is ∙ ap (block_of start) is in
-    let word : heard.word ≡ word_in (block_of start (slot_of count air)) = f.word_is ∙ ap (λ (s : List ℕ). word_in (block_of start s)) is in
-    let counts = f.counts ∙ ap (λ (s : List ℕ). disagreements speech 184 (mother_of (block_of start s)) (word_in (block_of start s))) is in
+received_slot count start air slot block codec trellis heard answer codec' trellis' none is off f a l =
+    let came : block ≡ block_of start (slot_of count air) = off ∙ ap (block_of start) is in
+    let word : heard.word ≡ word_in (block_of start (slot_of count air)) = f.word_is ∙ ap word_in came in
+    let counts = f.counts ∙ ap (λ (s : List ℕ). disagreements speech 184 (mother_of s) (word_in s)) came in
     receives_done (good (word_from count start air)) (counts_of count start air) none (
       a ∙ ap₂ (λ (v : List ℕ) (k : ℕ). checked (good v) (record { disagreements = k })) word counts,
-      l ∙ codec_over (map read_bit (take 102 heard.block) ++ take 172 heard.word) codec (receive_accepted count (length air) (length codec) (length trellis) none).room
-          ∙ ap₂ (λ (b v : List ℕ). written (codec_of (map read_bit (take 102 b) ++ take 172 v) (replicate 274 0)) codec) block word,
+      l ∙ codec_over (map read_bit (take 102 block) ++ take 172 heard.word) codec (receive_accepted count (length air) (length codec) (length trellis) none).room
+          ∙ ap₂ (λ (b v : List ℕ). written (codec_of (map read_bit (take 102 b) ++ take 172 v) (replicate 274 0)) codec) came word,
       f.clears,
     )
 

@@ -159,27 +159,24 @@ fn receive_refusal(count: usize, air: usize, codec: usize, trellis: usize) -> Re
 }
 
 // The block that came: descrambled and out of the matrix.
-fn take_off_air(start: u32, air: [u8; 432]) -> [u8; 432]
-    ensures { result ≡ block_of start air }
+fn take_off_air(start: u32, air: &[u8; 432], block: &mut [u8; 432])
+    ensures { block.new ≡ block_of start air.now }
 {
     let matrix = Matrix {
         lines: 24,
         columns: 18,
         start,
     };
-    let mut block = [0u8; 432];
-    matrix.take_off_air(&air, &mut block);
-    block
+    matrix.take_off_air(air, block);
 }
 
 // The mother symbols of a received block, unkept places erased.
-fn mother_symbols(block: [u8; 432]) -> [u8; 552]
-    ensures { result ≡ mother_of block }
+fn mother_symbols(block: &[u8; 432], mother: &mut [u8; 552])
+    ensures { mother.new ≡ mother_of block.now }
 {
-    let mut mother = [0xffu8; 552];
+    *mother = [0xffu8; 552];
     stages::inner::depuncture(CLASS1, &block[102..270], &mut mother[0..336]);
     stages::inner::depuncture(CLASS2, &block[270..432], &mut mother[336..552]);
-    mother
 }
 
 // An erased bit reads 0.
@@ -190,8 +187,8 @@ fn read_bit(symbol: u8) -> u8
 }
 
 // The uncoded bits of a block.
-fn uncoded_bits(block: [u8; 432]) -> [u8; 102]
-    ensures { result ≡ map read_bit (take 102 block) }
+fn uncoded_bits(block: &[u8; 432]) -> [u8; 102]
+    ensures { result ≡ map read_bit (take 102 block.now) }
 {
     let mut bits = [0u8; 102];
     for (i, bit) in bits.iter_mut().enumerate() {
@@ -200,35 +197,34 @@ fn uncoded_bits(block: [u8; 432]) -> [u8; 102]
     bits
 }
 
-// A received block, the word that is nearest to it, and how many of the block's symbols disagree with that word.
+// The word that is nearest to a received block, and how many of the block's symbols disagree with it.
 #[derive(Clone, Copy)]
 struct Heard {
-    block: [u8; 432],
     word: [u8; 184],
     disagreements: usize,
 }
 
 // The nearest word to a block.
-fn hear(block: [u8; 432], trellis: &mut [u16]) -> Heard
+fn hear(block: &[u8; 432], trellis: &mut [u16]) -> Heard
     requires { 184 ≤ length trellis.old }
-    ensures { HeardOf block trellis.old trellis.new result }
+    ensures { HeardOf block.now trellis.old trellis.new result }
 {
-    let mother = mother_symbols(block);
-    let mut word = [0u8; 184];
-    let disagreements = viterbi::inner::speech(&mother, &mut word, 184, trellis);
-    Heard {
-        block,
-        word,
-        disagreements,
-    }
+    let mut mother = [0u8; 552];
+    mother_symbols(block, &mut mother);
+    let mut heard = Heard {
+        word: [0u8; 184],
+        disagreements: 0,
+    };
+    heard.disagreements = viterbi::inner::speech(&mother, &mut heard.word, 184, trellis);
+    heard
 }
 
 impl Heard {
-    // The channel frame: uncoded bits, then the decoded ones of both classes.
-    fn channel(&self) -> [u8; 274]
-        ensures { result ≡ map read_bit (take 102 self.now.block) ++ take 172 self.now.word }
+    // The channel frame: the uncoded bits of the block, then the decoded ones of both classes.
+    fn channel(&self, block: &[u8; 432]) -> [u8; 274]
+        ensures { result ≡ map read_bit (take 102 block.now) ++ take 172 self.now.word }
     {
-        let bits = uncoded_bits(self.block);
+        let bits = uncoded_bits(block);
         let mut channel = [0u8; 274];
         channel[0..102].copy_from_slice(&bits);
         channel[102..274].copy_from_slice(&self.word[0..172]);
@@ -251,13 +247,13 @@ impl Heard {
         }
     }
 
-    // The codec bits that the word and the uncoded places hold, over the front of the target, and what the word's check says.
-    fn deliver(&self, codec: &mut [u8]) -> Received
+    // The codec bits that the word and the block's uncoded places hold, over the front of the target, and what the word's check says.
+    fn deliver(&self, block: &[u8; 432], codec: &mut [u8]) -> Received
         requires { 274 ≤ length codec.old }
         ensures { (result ≡ checked (good self.now.word) (record { disagreements = self.now.disagreements }))
-            × (codec.new ≡ codec_of (map read_bit (take 102 self.now.block) ++ take 172 self.now.word) codec.old) }
+            × (codec.new ≡ codec_of (map read_bit (take 102 block.now) ++ take 172 self.now.word) codec.old) }
     {
-        let channel = self.channel();
+        let channel = self.channel(block);
         tch_reorder::channel_to_codec(&channel, codec).unwrap();
         self.judge()
     }
@@ -277,9 +273,10 @@ fn receive_last(
     receive_refusal(count, air.len(), codec.len(), trellis.len())?;
     let mut symbols = [0xffu8; 432];
     symbols[432 - count..].copy_from_slice(&air[..count]);
-    let block = take_off_air(start, symbols);
-    let heard = hear(block, trellis);
-    Ok(heard.deliver(codec))
+    let mut block = [0u8; 432];
+    take_off_air(start, &symbols, &mut block);
+    let heard = hear(&block, trellis);
+    Ok(heard.deliver(&block, codec))
 }
 
 // Receives a whole slot: 432 symbols into 274 codec bits, with the verdict and the disagreements. SHORT, ROOM.

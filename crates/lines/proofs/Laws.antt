@@ -3,12 +3,14 @@
 use mathlib.Core.Path.{◌≡◌, refl, sym, ap, ◌∙◌}
 use mathlib.Core.Bool.{Bool, true, false}
 use mathlib.Core.List.{List, [], ◌∷◌, ◌++◌, append_assoc}
-use Prim.Native.Nat.{ℕ, zero, suc, ◌+◌, ◌^◌, ◌/◌, ◌%◌, ◌≤◌, ◌<◌}
+use Prim.Native.Nat.{ℕ, zero, suc, ◌+◌, ◌-◌, ◌^◌, ◌/◌, ◌%◌, ◌≤◌, ◌<◌}
 use native.Mathlib.Omega.{arith}
+use native.Mathlib.Numerals.{add-one}
 use native.Mathlib.Nat.{pow-suc}
 use borrow.Author.Tests.{ltb-true, ltb-false, lt-ltb, le-ltb}
 use lib.Dec.{ltb}
-use lib.ListN.{length, length-append}
+use lib.ListN.{length, length-append, drop, set}
+use Rattle.std.proofs.lemmas.List.{drop-set}
 use Rattle.lines.specs.Lines.{counted, judged}
 use Rattle.lines.specs.private.Widths.{SAID, heading}
 use Rattle.lines.specs.Text.{sign, hex, decimal_within, decimal}
@@ -70,8 +72,28 @@ decimal_length (suc k) n h = go (decimal_length k (n / 10)) (ltb n 10) refl
           ih (omega (arith, pow-suc 10 (suc k))),
         )
 
-pub decimal_high_length : (n : ℕ) → 10 ≤ n → length (decimal n) ≡ length (decimal (n / 10)) + 1
-decimal_high_length n h = ap length (decimal_high n h) ∙ length-append (decimal (n / 10)) (sign (n % 10) ∷ [])
+-- ---- digits written from the last on
+-- a digit stands before the others, and a tenth of the number is left
+pub decimal_turn : (n rest at : ℕ) (digits : List ℕ) → 10 ≤ rest → rest < 10 ^ suc at → at < length digits → decimal n ≡ decimal rest ++ drop (suc at) digits
+    → (rest / 10 < 10 ^ suc (at - 1)) × (decimal n ≡ decimal (rest / 10) ++ drop (suc (at - 1)) (set digits at (sign (rest % 10))))
+decimal_turn n rest zero digits h l k e = absurd (omega arith)
+decimal_turn n rest (suc at) digits h l k e =
+    let one : suc at - 1 ≡ at = omega arith in
+    let less : rest / 10 < 10 ^ suc at = omega (arith, pow-suc 10 (suc at)) in
+    let more : decimal n ≡ decimal (rest / 10) ++ drop (suc at) (set digits (suc at) (sign (rest % 10))) =
+    e ∙ ap (λ (t : List ℕ). t ++ drop (suc (suc at)) digits) (decimal_high rest h)
+    ∙ append_assoc (decimal (rest / 10)) (sign (rest % 10) ∷ []) (drop (suc (suc at)) digits)
+    ∙ ap (λ (j : ℕ). decimal (rest / 10) ++ sign (rest % 10) ∷ drop j digits) (sym (add-one (suc at)))
+    ∙ ap (λ (t : List ℕ). decimal (rest / 10) ++ t) (sym (drop-set digits (suc at) (sign (rest % 10)) k)) in
+    rw one (less, more)
+
+-- the first digit
+pub decimal_end : (n rest at : ℕ) (digits : List ℕ) → rest < 10 → at < length digits → decimal n ≡ decimal rest ++ drop (suc at) digits
+    → drop at (set digits at (sign (rest % 10))) ≡ decimal n
+decimal_end n rest at digits h k e =
+    drop-set digits at (sign (rest % 10)) k
+    ∙ ap (λ (j : ℕ). sign (rest % 10) ∷ drop j digits) (add-one at)
+    ∙ ap (λ (t : List ℕ). t ++ drop (suc at) digits) (sym (decimal_low rest h)) ∙ sym e
 
 -- ---- how long the texts are
 pub counted_length : (word : List ℕ) (n : ℕ) → length (counted word n) ≡ length word + 1 + length (decimal n)
@@ -102,6 +124,3 @@ judged_most word place contents h k =
 
 -- how long the texts of a line are
 pub ruleset sizes = (length-append, append_assoc, hex_length, counted_length, judged_length, heading_length, decimal_most, heading_most, counted_most, judged_most)
-
--- the digits of a number
-pub ruleset digits = (length-append, append_assoc, decimal_low, decimal_high, decimal_high_length)

@@ -57,3 +57,8 @@ put_then {a} {b} {at} {m} {r} {old} {mid} {new} h p q = record {
 -- ---- what a text written at a place leaves before and in it
 pub put_front : {text old new : List ℕ} {at next : ℕ} → at ≤ length old → Put text at old new next → take next new ≡ take at old ++ text
 put_front {text} {old} {new} {at} {next} h p = ap₂ take p.ends p.is ∙ front at text old h
+
+-- a text written behind the front, which then is longer by it
+pub pushed : (text part old : List ℕ) (at n : ℕ) → at ≤ length old → part ≡ text → n ≡ length text
+    → take (at + n) (put_mid at (at + n - at) old part) ≡ take at old ++ text
+pushed text part old at n h p e = put_front h (put_part p e)

@@ -1,7 +1,7 @@
 // Shared among our own crates: writing a line asks that there be room for it.
 #![tactic(auto, using(crate::proofs::Laws::sizes), unfolding(crate::specs::Lines::counted, crate::specs::Lines::judged, crate::specs::private::Widths::heading, crate::specs::Lines::line, crate::specs::Lines::end_line))]
 
-ghost use Rattle.std.specs.Prelude.{[], ◌∷◌, ◌++◌, ◌+◌, ◌≤◌, ◌<◌, ◌≡◌, length};
+ghost use Rattle.std.specs.Prelude.{[], ◌∷◌, ◌++◌, ◌+◌, ◌≤◌, ◌<◌, ◌≡◌, length, drop};
 ghost use Rattle.lines.specs.private.Placing.{Put};
 ghost use Rattle.lines.specs.private.Widths.{SAID, heading, said_text};
 ghost use Rattle.lines.specs.Text.{sign, decimal, hex};
@@ -52,6 +52,33 @@ fn sign_of(digit: u64) -> u8
     }
 }
 
+// Stays: digits by hand, here and below. `write!` says what it wrote only where it answers Ok, and `record` and `end` have no other answer.
+// Puts the decimal digits of n at the array's end, and answers the place of the first.
+fn decimal_digits(n: u64, digits: &mut [u8; 20]) -> usize
+    ensures { (drop result digits.new ≡ decimal n) × (result ≤ 20) }
+{
+    let mut rest = n;
+    let mut at: usize = 19;
+    while 10 <= rest {
+        digits[at] = sign_of(rest % 10);
+        rest /= 10;
+        at -= 1;
+    }
+    digits[at] = sign_of(rest % 10);
+    at
+}
+
+// Puts the last hexadecimal digits of n, as many as there are entries.
+fn hex_digits(n: u64, digits: &mut [u8])
+    ensures { digits.new ≡ hex (length digits.old) n }
+{
+    let mut rest = n;
+    for i in (0..digits.len()).rev() {
+        digits[i] = sign_of(rest % 16);
+        rest /= 16;
+    }
+}
+
 impl Line {
     fn new() -> Line
         ensures { result ≡ [] }
@@ -74,23 +101,18 @@ impl Line {
         requires { length self.old + length text.now ≤ LINE }
         ensures { self.new ≡ self.old ++ text.now }
     {
-        for byte in text {
-            self.push(*byte);
-        }
+        let end = self.length + text.len();
+        self.text[self.length..end].copy_from_slice(text);
+        self.length = end;
     }
 
-    // Stays: digits by hand. `write!` says what it wrote only where it answers Ok, and `record` and
-    // `end` have no other answer.
-    #[tactic(auto, using(crate::proofs::Laws::digits))]
     fn push_decimal(&mut self, n: u64)
         requires { length self.old + length (decimal n) ≤ LINE }
         ensures { self.new ≡ self.old ++ decimal n }
     {
-        if n < 10 {
-            return self.push(sign_of(n % 10));
-        }
-        self.push_decimal(n / 10);
-        self.push(sign_of(n % 10));
+        let mut digits = [0u8; 20];
+        let first = decimal_digits(n, &mut digits);
+        self.push_text(&digits[first..]);
     }
 
     // The last `digits` hexadecimal digits of n.
@@ -98,11 +120,9 @@ impl Line {
         requires { length self.old + digits ≤ LINE }
         ensures { self.new ≡ self.old ++ hex digits n }
     {
-        if digits == 0 {
-            return;
-        }
-        self.push_hex(digits - 1, n / 16);
-        self.push(sign_of(n % 16));
+        let end = self.length + digits;
+        hex_digits(n, &mut self.text[self.length..end]);
+        self.length = end;
     }
 
     fn push_counted(&mut self, word: &[u8], n: u64)

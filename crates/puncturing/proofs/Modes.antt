@@ -164,6 +164,21 @@ position_some mode h j =
     let e = leb→le 1 (get_or (kept_of mode) (x % t_of mode) 0) (entries (λ m i. leb 1 (get_or (kept_of m) i 0)) tt mode (x % t_of mode) h r) in
     omega (arith, position_entry mode j x (index_some mode h j), e)
 
+-- position j is at most three times j
+pub position_most : (mode j : ℕ) → mode ≤ 6 → position mode (j + 1) ≤ 3 * (j + 1)
+unfolding entry
+position_most mode j h =
+    let x = index mode (j + 1) - 1 in
+    let r = mod-lt x {m = t_of mode} (climbs mode h).some in
+    let e = leb→le (get_or (kept_of mode) (x % t_of mode) 0) (2 * (x % t_of mode) + 1)
+    (entries (λ m i. leb (get_or (kept_of m) i 0) (2 * i + 1)) tt mode (x % t_of mode) h r) in
+    omega (arith, position_entry mode j x (index_some mode h j), e, spread mode x h (index_some mode h j))
+  where
+    spread : (mode x : ℕ) → mode ≤ 6 → index mode (j + 1) ≡ x + 1 → period_of mode * (x / t_of mode) + (2 * (x % t_of mode) + 1) ≤ 3 * (j + 1)
+    spread mode x h =
+        by_mode (λ m. index m (j + 1) ≡ x + 1 → period_of m * (x / t_of m) + (2 * (x % t_of m) + 1) ≤ 3 * (j + 1))
+        (λ e. omega arith) (λ e. omega arith) (λ e. omega arith) (λ e. omega arith) (λ e. omega arith) (λ e. omega arith) (λ e. omega arith) mode h
+
 -- ---- places
 pub kept_rises : (mode : ℕ) → mode ≤ 6 → (i j : ℕ) → i < j → kept_place mode i < kept_place mode j
 kept_rises mode h i j l = omega (arith, position_rises mode h i j l, position_some mode h i)

@@ -35,3 +35,18 @@ puncture_accepts mode n src dst kind limit source target =
 pub depuncture_accepts : (mode n src dst : ℕ) → mode ≤ 6 → n ≤ 4096 → n ≤ src → needed mode n ≤ dst → depuncture_refusal mode n src dst ≡ accepted
 depuncture_accepts mode n src dst kind limit source target =
     rw (le-ltb 6 mode kind, le-ltb 4096 n limit, le-ltb src n source, le-ltb dst (needed mode n) target) refl
+
+-- ---- and nothing else is
+pub puncture_holds : (mode n src dst : ℕ) → puncture_refusal mode n src dst ≡ accepted → (mode ≤ 6) × (n ≤ 4096) × (needed mode n ≤ src) × (n ≤ dst)
+puncture_holds mode n src dst e =
+    let p = passed (ltb 6 mode) refusals.Kind _ e in
+    let q = passed (ltb 4096 n) refusals.Limit _ p.1 in
+    let r = roomy src (needed mode n) dst n q.1 in
+    (ltb-false 6 mode p.0, ltb-false 4096 n q.0, r.0, r.1)
+
+pub depuncture_holds : (mode n src dst : ℕ) → depuncture_refusal mode n src dst ≡ accepted → (mode ≤ 6) × (n ≤ 4096) × (n ≤ src) × (needed mode n ≤ dst)
+depuncture_holds mode n src dst e =
+    let p = passed (ltb 6 mode) refusals.Kind _ e in
+    let q = passed (ltb 4096 n) refusals.Limit _ p.1 in
+    let r = roomy src n dst (needed mode n) q.1 in
+    (ltb-false 6 mode p.0, ltb-false 4096 n q.0, r.0, r.1)

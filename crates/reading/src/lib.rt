@@ -7,7 +7,7 @@
 pub mod inner;
 
 ghost use Rattle.std.specs.Prelude.{true, false, ◌≡◌, Some};
-ghost use Rattle.reading.specs.private.Words.{word_of};
+ghost use Rattle.reading.specs.Words.{word_of};
 ghost use Rattle.reading.specs.declared.Next.TheVariants.{Goes};
 ghost use Rattle.reading.specs.Turns.{of_read, meant, bytes_of, has_failed, first, wrote};
 

@@ -10,8 +10,9 @@ pub fn code_word(input: u16) -> u32
     requires { input < 2 ^ 14 }
     ensures { result ≡ code_word input }
 {
+    let rows = RM_30_14_ROWS_PRECOMPUTED;
     let mut word: u32 = 0;
-    for (i, row) in RM_30_14_ROWS_PRECOMPUTED.iter().enumerate() {
+    for (i, row) in rows.iter().enumerate() {
         if (input >> (13 - i)) & 1 == 1 {
             word ^= row;
         }
@@ -24,8 +25,9 @@ pub fn code_word(input: u16) -> u32
 pub fn syndrome_of(codeword: u32) -> u16
     ensures { result ≡ syndrome codeword }
 {
+    let columns = COL_SYNDROMES;
     let mut sum: u16 = 0;
-    for (i, column) in COL_SYNDROMES.iter().enumerate() {
+    for (i, column) in columns.iter().enumerate() {
         if (codeword >> (29 - i)) & 1 == 1 {
             sum ^= column;
         }
@@ -37,7 +39,8 @@ pub fn syndrome_of(codeword: u32) -> u16
 fn column_of(sum: u16) -> Option<usize>
     ensures { result ≡ position (λ c. c == sum) columns }
 {
-    COL_SYNDROMES.iter().position(|column| *column == sum)
+    let columns = COL_SYNDROMES;
+    columns.iter().position(|column| *column == sum)
 }
 
 // The verdict on a word.

@@ -5,7 +5,7 @@ use reading::Next;
 use std::env::FillError;
 use std::fs::File;
 use std::io;
-use std::io::{ErrorKind, Write};
+use std::io::{Cursor, ErrorKind, Write};
 use std::rt::Env;
 
 // The longest name that a file can have, with the end that C puts behind it.
@@ -17,6 +17,17 @@ const TOO_LONG: i32 = 36;
 
 const NO_TEXT: i32 = 84;
 
+// Room for the longest word and the end of its line.
+const WORD: usize = 16;
+
+// The word and the end of its line go out in one write, so that whoever reads the file meanwhile never has half of them.
+fn write_word(file: &mut File, next: Next) -> io::Result<()> {
+    let mut line = Cursor::new([0u8; WORD]);
+    writeln!(line, "{next}")?;
+    let length = line.position() as usize;
+    file.write_all(&line.get_ref()[..length.min(WORD)])
+}
+
 // Writes the word to the file of that name. Nothing is said of a turn that goes on: that is no end.
 fn put_file(rt: &HostRuntime, name: &[u8], next: Next) -> io::Result<()> {
     let Ok(path) = std::str::from_utf8(name) else {
@@ -26,7 +37,7 @@ fn put_file(rt: &HostRuntime, name: &[u8], next: Next) -> io::Result<()> {
     if next == Next::Goes {
         return Err(io::Error::from(ErrorKind::Other));
     }
-    writeln!(file, "{next}")
+    write_word(&mut file, next)
 }
 
 fn tell_file(rt: &HostRuntime, next: Next) -> io::Result<()> {

@@ -32,6 +32,16 @@ pub fn descramble(start: u32, air: &[u8], plain: &mut [u8])
     scrambler::tetra_descramb_bits(start, plain);
 }
 
+// The first k air symbols without their scrambling, each fetched from its place in the block interleaver.
+pub fn take_block_off_air(k: usize, a: usize, start: u32, air: &[u8], coded: &mut [u8])
+    requires { (k ≤ 432) × (a ≤ 65535) × (shared k a ≡ false) × (k ≤ length air.now) × (length coded.old ≡ k) }
+    ensures { coded.new ≡ deinterleaved k a (descrambled start (take k air.now)) }
+{
+    let mut plain = [0u8; 432];
+    descramble(start, air, &mut plain[..k]);
+    interleaver::block_deinterleave(k, a, &plain[..k], coded).unwrap();
+}
+
 // Coded symbols at the places that a mode keeps of a mother target; its other entries stay.
 pub fn depuncture(mode: u8, coded: &[u8], mother: &mut [u8])
     requires { (mode ≤ 6) × (length coded.now ≤ 4096) × (needed mode (length coded.now) ≤ length mother.old) }
@@ -65,24 +75,19 @@ impl Block {
         scramble(self.start, air);
     }
 
-    // The block's air symbols without their scrambling, each fetched from its place.
-    fn take_coded(self, air: &[u8], coded: &mut [u8])
-        requires { (self.count ≤ length air.now) × (length coded.old ≡ self.count) }
-        ensures { coded.new ≡ deinterleaved self.count self.step (descrambled self.start (take self.count air.now)) }
-    {
-        let k = self.count;
-        let mut plain = [0u8; 432];
-        descramble(self.start, air, &mut plain[..k]);
-        interleaver::block_deinterleave(k, self.step, &plain[..k], coded).unwrap();
-    }
-
-    // The same, at the places that the mode keeps of a mother target; its other entries stay.
+    // The block's air symbols without their scrambling, at the places that the mode keeps of a mother target; its other entries stay.
     pub fn take_off_air(self, air: &[u8], mother: &mut [u8])
         requires { (self.count ≤ length air.now) × (needed self.mode self.count ≤ length mother.old) }
         ensures { mother.new ≡ depunctured self.mode self.count (deinterleaved self.count self.step (descrambled self.start (take self.count air.now))) mother.old }
     {
         let mut coded = [0u8; 432];
-        self.take_coded(air, &mut coded[..self.count]);
+        take_block_off_air(
+            self.count,
+            self.step,
+            self.start,
+            air,
+            &mut coded[..self.count],
+        );
         depuncture(self.mode, &coded[..self.count], mother);
     }
 }

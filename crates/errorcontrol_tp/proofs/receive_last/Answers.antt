@@ -1,7 +1,4 @@
-use mathlib.Core.Path.{sym, subst, ◌∙◌}
-use mathlib.Core.List.{List}
-use Prim.Native.Nat.{ℕ}
-use Rattle.errorcontrol_tp.specs.private.Settling.{HeardOf}
+use mathlib.Core.Path.{sym, ◌∙◌}
 use Rattle.errorcontrol_tp.proofs.Chains.{received_slot, last_made}
 use Rattle.errorcontrol_tp.proofs.receive_last.Goals as goal
 
@@ -10,6 +7,6 @@ returns c =
     let a = c.args in
     let h = c.hear-heard in
     let none = sym c.receive_refusal.ensures ∙ c.in_ok-receive_refusal.was in
-    let heard = subst (λ (l : List ℕ). HeardOf l a.trellis.now h.new.trellis h.result) c.take_off_air-block.ensures h.ensures in
-    received_slot a.count a.start a.air.now _ a.codec.now a.trellis.now h.result c.deliver.result c.deliver.new.codec h.new.trellis
-    none (last_made a.count a.air.now c.copy_from_slice.new.self c.requires c.copy_from_slice.ensures.after) heard c.deliver.ensures.0 c.deliver.ensures.1
+    received_slot a.count a.start a.air.now _ _ a.codec.now a.trellis.now h.result c.deliver.result c.deliver.new.codec h.new.trellis
+    none (last_made a.count a.air.now c.copy_from_slice.new.self c.requires c.copy_from_slice.ensures.after) c.take_off_air.ensures h.ensures
+    c.deliver.ensures.0 c.deliver.ensures.1

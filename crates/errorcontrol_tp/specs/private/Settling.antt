@@ -12,7 +12,6 @@ word_in block = decoded speech 184 (mother_of block)
 
 -- what is heard of a block
 pub record HeardOf (block trellis trellis' : List ℕ) (heard : Heard) : Type 0 where
-  pub block_is : heard.block ≡ block
   pub word_is : heard.word ≡ word_in block
   pub counts : heard.disagreements ≡ disagreements speech 184 (mother_of block) (word_in block)
   pub clears : trellis' ≡ cleared 184 trellis
